@@ -1,0 +1,34 @@
+-- `parts::vacate_nodes` meets its contract: each column is what `fill` leaves of its part. Assumes nothing.
+use borrow.Author.Needs.{needs}
+use native.Mathlib.Omega.{arith}
+use Rattle.tables.proofs.Front.{put-filled}
+use Rattle.tables.proofs.parts.vacate_nodes.Statement.{statement}
+use Rattle.tables.proofs.parts.vacate_nodes.Tie as tie
+
+returns : tie.Need-returns
+returns c =
+    let p = c .before .before .before .before .before .before .before .before .pre in
+    record {
+      weights-are = put-filled _ _ _ _ _ (p .ordered) (p .weights-hold) (c .before .before .before .before .before .fill-weights .ensures);
+      heads-are = put-filled _ _ _ _ _ (omega arith) (p .heads-hold) (c .before .before .fill .ensures);
+    }
+
+pub vacate-nodes-spec : {M : Type 1} → statement M
+vacate-nodes-spec =
+    tie.close
+    (tie.spec
+    (λ c. search needs)
+    (λ c. search needs)
+    (λ c. search needs)
+    (λ c. search needs)
+    (λ c κs. search needs)
+    (λ c. search needs)
+    (λ c. search needs)
+    (λ c. search needs)
+    (λ c. search needs)
+    (λ c. search needs)
+    (λ c. search needs)
+    (λ c κs. search needs)
+    (λ c. search needs)
+    (λ c. search needs)
+    returns)

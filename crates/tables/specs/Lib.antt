@@ -1,0 +1,3 @@
+pub mod Net
+pub mod Rows
+pub mod Answers

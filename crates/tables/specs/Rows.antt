@@ -1,0 +1,119 @@
+-- A row of the network, read and written whole, and what a vacant row holds.
+use Prim.Native.Nat.{ℕ, _+_, _-_, _*_, _<_, _≤_}
+use mathlib.Core.Path.{_≡_}
+use mathlib.Core.List.{List, _++_}
+use denote.Ref.{now}
+use lib.IntN.{ℤ, pos}
+use lib.ListN.{length, getD, set, take, drop, replicate}
+use Rattle.index.specs.Index.{END}
+use Rattle.tables.specs.declared.rows.Node.{Node}
+use Rattle.tables.specs.declared.rows.Edge.{Edge}
+use Rattle.tables.specs.Net.{Net, Lent, withNodes, withEdges, nodeCells, edgeCells, nodeCell, edgeCell}
+
+-- a node with no edges; a vacant row is one of weight 0
+abbrev pub bare : ℤ → Node
+bare w = record { weight = w; outgoing = record { 0 = END }; incoming = record { 0 = END } }
+
+abbrev pub vacantNode : Node
+vacantNode = bare (pos 0)
+
+abbrev pub vacantEdge : Edge
+vacantEdge = record { weight = 0; outgoing = record { 0 = END }; incoming = record { 0 = END }; source = record { 0 = END }; target = record { 0 = END } }
+
+-- the columns with one row written
+abbrev pub headsWith : List ℕ → ℕ → Node → List ℕ
+headsWith heads a row = set (set heads (nodeCell a 0) (row .outgoing .0)) (nodeCell a 1) (row .incoming .0)
+
+abbrev pub linksWith : List ℕ → ℕ → Edge → List ℕ
+linksWith links e row = set (set links (edgeCell e 0) (row .outgoing .0)) (edgeCell e 1) (row .incoming .0)
+
+abbrev pub endsWith : List ℕ → ℕ → Edge → List ℕ
+endsWith ends e row = set (set ends (edgeCell e 0) (row .source .0)) (edgeCell e 1) (row .target .0)
+
+-- the network with one row written
+unfoldable pub withNode : Net → ℕ → Node → Net
+withNode g a row = withNodes g (set (g .weights) a (row .weight)) (headsWith (g .heads) a row)
+
+unfoldable pub withEdge : Net → ℕ → Edge → Net
+withEdge g e row = withEdges g (set (g .registers) e (row .weight)) (linksWith (g .links) e row) (endsWith (g .ends) e row)
+
+-- a new edge from a to b takes the old heads of its two lists as its next, and becomes the head of both
+abbrev pub newEdge : List ℕ → ℕ → ℕ → ℕ → Edge
+newEdge heads a b w =
+    record {
+      weight = w;
+      outgoing = record { 0 = getD heads (nodeCell a 0) 0 };
+      incoming = record { 0 = getD heads (nodeCell b 1) 0 };
+      source = record { 0 = a };
+      target = record { 0 = b };
+    }
+
+abbrev pub headed : List ℕ → ℕ → ℕ → ℕ → List ℕ
+headed heads a b e = set (set heads (nodeCell a 0) e) (nodeCell b 1) e
+
+-- a column whose cells from `first` up to `last` hold x
+abbrev pub filled : {A : Type 0} → List A → ℕ → ℕ → A → List A
+filled l first last x = take first l ++ (replicate (last - first) x ++ drop last l)
+
+-- the network with its rows from `first` up to `last` vacant
+unfoldable pub vacantNodes : Net → ℕ → ℕ → Net
+vacantNodes g first last = withNodes g (filled (g .weights) first last (pos 0)) (filled (g .heads) (nodeCells * first) (nodeCells * last) END)
+
+unfoldable pub vacantEdges : Net → ℕ → ℕ → Net
+vacantEdges g first last =
+    withEdges g
+    (filled (g .registers) first last 0)
+    (filled (g .links) (edgeCells * first) (edgeCells * last) END)
+    (filled (g .ends) (edgeCells * first) (edgeCells * last) END)
+
+-- what a part that writes one row leaves in the columns lent to it
+pub record WritesNode (weights : Lent ℤ) (heads : Lent ℕ) (a : ℕ) (row : Node) : Type 0 where
+  pub weights-are : now (weights .exit) ≡ set (now (weights .entry)) a (row .weight)
+  pub heads-are : now (heads .exit) ≡ headsWith (now (heads .entry)) a row
+
+pub record WritesEdge (registers links ends : Lent ℕ) (e : ℕ) (row : Edge) : Type 0 where
+  pub registers-are : now (registers .exit) ≡ set (now (registers .entry)) e (row .weight)
+  pub links-are : now (links .exit) ≡ linksWith (now (links .entry)) e row
+  pub ends-are : now (ends .exit) ≡ endsWith (now (ends .entry)) e row
+
+-- the columns have a row of that number
+pub record NodeRow (weights heads a : ℕ) : Type 0 where
+  pub weights-hold : a < weights
+  pub heads-hold : nodeCell a 1 < heads
+
+pub record EdgeRow (registers links ends e : ℕ) : Type 0 where
+  pub registers-hold : e < registers
+  pub links-hold : edgeCell e 1 < links
+  pub ends-hold : edgeCell e 1 < ends
+
+-- what a part that vacates rows leaves in the columns lent to it
+pub record VacatesNodes (weights : Lent ℤ) (heads : Lent ℕ) (first last : ℕ) : Type 0 where
+  pub weights-are : now (weights .exit) ≡ filled (now (weights .entry)) first last (pos 0)
+  pub heads-are : now (heads .exit) ≡ filled (now (heads .entry)) (nodeCells * first) (nodeCells * last) END
+
+pub record VacatesEdges (registers links ends : Lent ℕ) (first last : ℕ) : Type 0 where
+  pub registers-are : now (registers .exit) ≡ filled (now (registers .entry)) first last 0
+  pub links-are : now (links .exit) ≡ filled (now (links .entry)) (edgeCells * first) (edgeCells * last) END
+  pub ends-are : now (ends .exit) ≡ filled (now (ends .entry)) (edgeCells * first) (edgeCells * last) END
+
+-- the columns have these rows
+pub record NodeSpan (weights heads first last : ℕ) : Type 0 where
+  pub ordered : first ≤ last
+  pub weights-hold : last ≤ weights
+  pub heads-hold : nodeCells * last ≤ heads
+
+pub record EdgeSpan (registers links ends first last : ℕ) : Type 0 where
+  pub ordered : first ≤ last
+  pub registers-hold : last ≤ registers
+  pub links-hold : edgeCells * last ≤ links
+  pub ends-hold : edgeCells * last ≤ ends
+
+-- what the part that links a new edge in leaves in the columns lent to it, and the rows that it needs
+pub record LinksEdge (heads registers links ends : Lent ℕ) (e a b w : ℕ) : Type 0 where
+  pub heads-are : now (heads .exit) ≡ headed (now (heads .entry)) a b e
+  pub row-is : WritesEdge registers links ends e (newEdge (now (heads .entry)) a b w)
+
+pub record Linkable (heads registers links ends e a b : ℕ) : Type 0 where
+  pub source-row : nodeCell a 1 < heads
+  pub target-row : nodeCell b 1 < heads
+  pub edge-row : EdgeRow registers links ends e
