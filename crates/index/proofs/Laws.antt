@@ -1,7 +1,7 @@
 -- The two directions are numbered 0 and 1, and each refusal has a number of its own. Assumes nothing.
 use Prim.Native.Nat.{ℕ, _<_}
 use mathlib.Core.Path.{_≡_, refl}
-use mathlib.Core.List.{[], _∷_}
+use mathlib.Core.List.{[], _∷_, map}
 use lib.ListN.{getD}
 use native.Mathlib.Omega.{arith}
 use Rattle.index.specs.declared.EdgeDirection.{EdgeDirection}
@@ -19,18 +19,21 @@ pub direction-number : (d : EdgeDirection) → directionOf (numberOf d) ≡ d
 direction-number Outgoing = refl
 direction-number Incoming = refl
 
--- the refusal of a number: so no two refusals have the same
-abbrev pub refusalOf : ℕ → Refusal
-refusalOf x = getD (Tables ∷ Tables ∷ Full ∷ NoNode ∷ NoEdge ∷ Nothing ∷ Broken ∷ Short ∷ NotImage ∷ Version ∷ NotCommand ∷ []) x Tables
+-- what a number tells: 0 the one thing, each other number the refusal that has it
+abbrev pub untold : {A : Type 0} → A → (Refusal → A) → ℕ → A
+untold served refused x =
+    let refusals = map refused (Tables ∷ Full ∷ NoNode ∷ NoEdge ∷ Nothing ∷ Broken ∷ Short ∷ NotImage ∷ Version ∷ NotCommand ∷ []) in
+    getD (served ∷ refusals) x served
 
-pub refusal-of-no : (why : Refusal) → refusalOf (refusalNo why) ≡ why
-refusal-of-no Tables = refl
-refusal-of-no Full = refl
-refusal-of-no NoNode = refl
-refusal-of-no NoEdge = refl
-refusal-of-no Nothing = refl
-refusal-of-no Broken = refl
-refusal-of-no Short = refl
-refusal-of-no NotImage = refl
-refusal-of-no Version = refl
-refusal-of-no NotCommand = refl
+-- so no two refusals have the same number, and none has 0
+pub untold-refusal : {A : Type 0} (served : A) (refused : Refusal → A) (why : Refusal) → untold served refused (refusalNo why) ≡ refused why
+untold-refusal served refused Tables = refl
+untold-refusal served refused Full = refl
+untold-refusal served refused NoNode = refl
+untold-refusal served refused NoEdge = refl
+untold-refusal served refused Nothing = refl
+untold-refusal served refused Broken = refl
+untold-refusal served refused Short = refl
+untold-refusal served refused NotImage = refl
+untold-refusal served refused Version = refl
+untold-refusal served refused NotCommand = refl
