@@ -46,11 +46,15 @@ out answer after = record { answer = answer; after = after }
 abbrev pub unless : {A : Type 0} → Bool → A → A → A
 unless holds otherwise rest = cond holds rest otherwise
 
--- items go to the front of an output table, whose other cells keep their values; 7 where it is too short for them
+-- items at the front of an output table, whose other cells keep their values
+abbrev pub onto : List ℕ → List ℕ → List ℕ
+onto items table = items ++ drop (length items) table
+
+-- they are given where the table has room for them; else 7
 abbrev pub give : List ℕ → List ℕ → Out ℕ (List ℕ)
 give items table =
     unless (leb (length items) (length table)) (out (refused Short 0) table)
-    (out (done (length items)) (items ++ drop (length items) table))
+    (out (done (length items)) (onto items table))
 
 -- the values of each kind of answer
 abbrev pub toldNode : NodeAnswer → Told ℕ

@@ -1,0 +1,4 @@
+pub mod Walks
+pub mod Firsts
+pub mod Counts
+pub mod Gives

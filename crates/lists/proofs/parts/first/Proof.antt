@@ -1,0 +1,72 @@
+-- `parts::first` meets its contract: of the rows met so far the walk takes none. Assumes nothing.
+use Prim.Native.Nat.{ℕ, _-_}
+use mathlib.Core.Path.{_≡_, refl, sym, ap, _∙_}
+use mathlib.Core.List.{List, [], _∷_, _++_}
+use borrow.Author.Needs.{needs}
+use borrow.Author.Tests.{lt-ltb, le-ltb}
+use native.Mathlib.Omega.{arith}
+use denote.Ref.{now}
+use lib.ListN.{length}
+use Rattle.lists.specs.Walk.{cell, filter, picked}
+use Rattle.lists.proofs.Walks.{Along, begins, onward, rest, all-met, stops-here, stops-short, filter-leaves}
+use Rattle.lists.proofs.Firsts.{first-hit, first-end, first-broken}
+use Rattle.lists.proofs.parts.first.Statement.{statement}
+use Rattle.lists.proofs.parts.first.Tie as tie
+
+abbrev Inv-loop : tie.InvT-loop
+Inv-loop links ends m k pick link far e₀ rows₀ e rows =
+    (met : List ℕ) × Along (cell links k) m link met e rows × (filter (λ x. picked pick (cell ends (1 - k) x)) met ≡ [])
+
+abbrev μ-loop : tie.MeasureT-loop
+μ-loop links ends m k pick link far e₀ rows₀ e rows = m - rows
+
+loop-holds : tie.Need-loop-holds Inv-loop μ-loop
+loop-holds c = ([], begins _ _ _ (c .before .before .fits .link .fits), refl)
+
+loop-again : tie.Need-loop-again Inv-loop μ-loop
+loop-again c =
+    let l = c .before .before .before .before .before .before .before .loop in
+    let i = l .inv in
+    let q = c .before .before .before .before .index .ensures in
+    let t = rw q at (sym (c .before .before .picks .ensures) ∙ c .before .if3 .left) in
+    rw q (i .0 ++ (l .e ∷ []), onward (i .1) (c .before .before .before .before .before .before .if1 .left) (c .before .before .before .before .before .if2 .left) (c .shared-slice-known4 .given _ .fits), filter-leaves _ (i .0) (l .e) t ∙ i .2)
+
+returns : tie.Need-returns Inv-loop μ-loop
+returns c =
+    let i = c .before .loop .inv in
+    first-end _ (i .1) (i .2) (c .if1 .taken)
+
+returns-2 : tie.Need-returns-2 Inv-loop μ-loop
+returns-2 c =
+    let i = c .before .before .loop .inv in
+    first-broken _ (i .1) (i .2) (c .before .if1 .left) (c .if2 .taken)
+
+returns-3 : tie.Need-returns-3 Inv-loop μ-loop
+returns-3 c =
+    let i = c .before .before .before .before .before .before .loop .inv in
+    let t = rw (c .before .before .before .index .ensures) at (sym (c .before .picks .ensures) ∙ c .if3 .taken) in
+    first-hit _ (i .1) (i .2) (c .before .before .before .before .before .if1 .left) (c .before .before .before .before .if2 .left) t
+
+pub first-spec : {M : Type 1} → statement M
+first-spec =
+    tie.close
+    (tie.spec
+    Inv-loop
+    μ-loop
+    (λ c. search needs)
+    loop-holds
+    (λ c κs. search needs)
+    (λ c. search needs)
+    (λ c. search needs)
+    (λ c. search needs)
+    (λ c. search needs)
+    (λ c κs. search needs)
+    (λ c. search needs)
+    (λ c. search needs)
+    (λ c. search needs)
+    (λ c. search needs)
+    (λ c. search needs)
+    loop-again
+    returns
+    returns-2
+    returns-3)

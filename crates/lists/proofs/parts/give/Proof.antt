@@ -1,0 +1,121 @@
+-- `parts::give` meets its contract: the items of the rows met so far stand at the front. Assumes nothing.
+use Prim.Native.Nat.{ℕ, _-_, _<_, _≤_}
+use mathlib.Core.Path.{_≡_, refl, sym, _∙_}
+use mathlib.Core.Logic.{⊎-elim}
+use mathlib.Core.List.{List, [], _∷_, _++_, map}
+use borrow.Author.Needs.{needs}
+use native.Mathlib.Omega.{arith}
+use denote.Ref.{now}
+use lib.ListN.{length}
+use Rattle.lists.specs.Walk.{cell, filter, picked, itemOf, rowsFrom, takenFrom}
+use Rattle.lists.proofs.Walks.{Along, begins, onward}
+use Rattle.lists.proofs.Gives.{Giving, short, below, room, gives-row, passes-row, given}
+use Rattle.lists.proofs.parts.give.Statement.{statement}
+use Rattle.lists.proofs.parts.give.Tie as tie
+
+abbrev Inv-loop : tie.InvT-loop
+Inv-loop registers links ends m k pick item link rows items₀ far e₀ at₀ met₀ items e at met =
+    (xs : List ℕ)
+    × Along (cell links k) m link xs e met
+    × Giving (map (itemOf registers ends item k) (takenFrom links ends m k pick link)) items₀ (filter (λ x. picked pick (cell ends (1 - k) x)) xs) items at
+    × (met ≤ rows)
+
+abbrev μ-loop : tie.MeasureT-loop
+μ-loop registers links ends m k pick item link rows items₀ far e₀ at₀ met₀ items e at met = rows - met
+
+loop-holds : tie.Need-loop-holds Inv-loop μ-loop
+loop-holds c = ([], begins _ _ _ (c .before .before .before .before .fits .link .fits), record { many = refl; long = refl; so-far = refl }, omega arith)
+
+shared-slice-read-e : tie.Need-shared-slice-read-e Inv-loop μ-loop
+shared-slice-read-e c =
+    let i = c .before .before .before .loop .inv in
+    let p = c .before .before .before .before .before .before .before .before .pre in
+    let h = below (i .1) (p .all-rows) (c .before .before .loop-test .taken) in
+    omega (arith, c .before .index .ensures, p .edges)
+
+value-requires : tie.Need-value-requires Inv-loop μ-loop
+value-requires c κs =
+    let i = c .before .before .before .before .before .loop .inv in
+    let p = c .before .before .before .before .before .before .before .before .before .before .pre in
+    let h = below (i .1) (p .all-rows) (c .before .before .before .before .loop-test .taken) in
+    omega (arith, p .edges)
+
+slice-write-items : tie.Need-slice-write-items Inv-loop μ-loop
+slice-write-items c =
+    let i = c .before .before .before .before .before .before .loop .inv in
+    let z = c .before .before .before .before .before .before .before .before .before .before .before in
+    let p = z .pre in
+    let t = c .before .before .before .before .before .loop-test .taken in
+    let v = itemOf (now (z .args .registers)) (now (z .args .ends)) (z .args .item) (z .args .k) in
+    let took = rw (c .before .before .before .before .index .ensures) at (sym (c .before .before .picks .ensures) ∙ c .before .if1 .taken) in
+    room _ v (i .1) (p .all-taken) (i .2) (below (i .1) (p .all-rows) t) (short (i .1) (p .all-rows) t) took
+
+mul-items : tie.Need-mul-items Inv-loop μ-loop
+mul-items c =
+    let r = slice-write-items c in
+    search needs
+
+add-at : tie.Need-add-at Inv-loop μ-loop
+add-at c =
+    let r = slice-write-items c in
+    search needs
+
+shared-slice-read-e-2 : tie.Need-shared-slice-read-e-2 Inv-loop μ-loop
+shared-slice-read-e-2 c =
+    let i = c .before .before .before .before .before .before .loop .inv in
+    let p = c .before .before .before .before .before .before .before .before .before .before .before .pre in
+    let h = below (i .1) (p .all-rows) (c .before .before .before .before .before .loop-test .taken) in
+    omega (arith, c .before .before .before .before .index .ensures, p .edges)
+
+loop-again : tie.Need-loop-again Inv-loop μ-loop
+loop-again c =
+    let l = c .before .before .before .before .before .before .loop in
+    let i = l .inv in
+    let p = c .before .before .before .before .before .before .before .before .before .before .before .pre in
+    let q = c .before .before .before .before .index .ensures in
+    let r = sym (c .before .before .picks .ensures) in
+    let t = c .before .before .before .before .before .loop-test .taken in
+    let h = below (i .1) (p .all-rows) t in
+    let n = short (i .1) (p .all-rows) t in
+    rw q (
+      i .0 ++ (l .e ∷ []),
+      onward (i .1) h n (c .shared-slice-known5 .given _ .fits),
+      ⊎-elim
+          (λ w. rw (w .2, w .3, w .1 .ensures) (gives-row _ _ (i .1) (p .all-taken) (i .2) h n (rw q at (r ∙ w .0 .taken))))
+          (λ w. rw (w .1, w .2) (passes-row _ _ (i .1) (p .all-taken) (i .2) (rw q at (r ∙ w .0 .left))))
+          (c .before .if1 .came),
+      omega arith,
+    )
+
+returns : tie.Need-returns Inv-loop μ-loop
+returns c =
+    let i = c .before .loop .inv in
+    let p = c .before .before .before .before .before .before .pre in
+    given _ _ (i .1) (p .all-taken) (i .2) (p .all-rows ∙ omega arith)
+
+pub give-spec : {M : Type 1} → statement M
+give-spec =
+    tie.close
+    (tie.spec
+    Inv-loop
+    μ-loop
+    (λ c. search needs)
+    loop-holds
+    (λ c κs. search needs)
+    (λ c. search needs)
+    (λ c. search needs)
+    (λ c. search needs)
+    shared-slice-read-e
+    (λ c κs. search needs)
+    value-requires
+    mul-items
+    slice-write-items
+    add-at
+    (λ c. search needs)
+    (λ c. search needs)
+    shared-slice-read-e-2
+    (λ c. search needs)
+    (λ c. search needs)
+    loop-again
+    (λ c. c .before .loop .inv .2 .long)
+    returns)
