@@ -5,6 +5,7 @@ use mathlib.Core.Bool.{Bool, true, false, cond}
 use mathlib.Core.List.{List, [], _∷_, _++_}
 use borrow.Author.Tests.{lt-ltb, le-ltb}
 use native.Mathlib.Omega.{arith}
+use lib.Dec.{ltb}
 use lib.ListN.{length, length-append}
 use Rattle.lists.specs.Walk.{walk, stop, filter, countOf}
 use Rattle.lists.specs.declared.Counted.{Counted}
@@ -33,3 +34,18 @@ module _ {next : ℕ → ℕ} {m first : ℕ} {met : List ℕ} {e rows : ℕ} (p
 
   pub uncounted : e < m → rows ≡ m → Broken ≡ countOf (walk next m m first) (filter p (walk next m m first)) m (stop next m m first)
   uncounted h n = rw (stops-short a n, lt-ltb e m h)
+
+-- what a count says of its list
+pub count-broken : (rows taken : List ℕ) (m s : ℕ) → countOf rows taken m s ≡ Broken → ltb s m ≡ true
+count-broken rows taken m s = go (ltb s m)
+  where
+    go : (b : Bool) → cond b Broken (Rows (length rows) (length taken)) ≡ Broken → b ≡ true
+    go true h = refl
+    go false h = absurd (let z : _≡_ {A = ℕ} 0 1 = cc in omega arith)
+
+pub count-rows : (rows taken : List ℕ) (m s : ℕ) {r t : ℕ} → countOf rows taken m s ≡ Rows r t → (ltb s m ≡ false) × (length rows ≡ r) × (length taken ≡ t)
+count-rows rows taken m s {r} {t} = go (ltb s m)
+  where
+    go : (b : Bool) → cond b Broken (Rows (length rows) (length taken)) ≡ Rows r t → (b ≡ false) × (length rows ≡ r) × (length taken ≡ t)
+    go true h = absurd (let z : _≡_ {A = ℕ} 0 1 = cc in omega arith)
+    go false h = (refl, cc, cc)

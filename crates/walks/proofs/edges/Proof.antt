@@ -1,0 +1,52 @@
+-- `walks::edges` meets its contract: each `return` rewrites with the tests that led there. Assumes nothing.
+use borrow.Author.Needs.{needs}
+use borrow.Author.Tests.{lt-ltb, le-ltb}
+use native.Mathlib.Omega.{arith}
+use Rattle.tables.proofs.Laws.{misfit, fitted, fitting}
+use Rattle.walks.specs.Walks.{edges}
+use Rattle.walks.proofs.Calls.{edges-told}
+use Rattle.walks.proofs.edges.Statement.{statement}
+use Rattle.walks.proofs.edges.Tie as tie
+
+returns : tie.Need-returns
+unfolding edges
+returns c = rw (misfit (c .before .fits2 .ensures) (c .if1 .taken))
+
+returns-2 : tie.Need-returns-2
+unfolding edges
+returns-2 c = rw (fitted (c .before .before .before .fits2 .ensures) (c .before .before .if1 .left), le-ltb _ _ (c .if2 .taken))
+
+along-requires : tie.Need-along-requires
+along-requires c κs =
+    let f = fitting (c .before .before .before .fits2 .ensures) (c .before .before .if1 .left) in
+    omega arith
+
+along-requires-2 : tie.Need-along-requires-2
+along-requires-2 c κs =
+    let f = fitting (c .before .before .before .before .fits2 .ensures) (c .before .before .before .if1 .left) in
+    omega arith
+
+walk-edges-requires : tie.Need-walk-edges-requires
+walk-edges-requires c κs =
+    let f = fitting (c .before .before .before .before .before .before .before .before .fits2 .ensures) (c .before .before .before .before .before .before .before .if1 .left) in
+    rw (c .before .before .before .before .along .ensures, c .before .before .before .along2 .ensures) (omega arith)
+
+returns-3 : tie.Need-returns-3
+returns-3 c =
+    let e = rw (c .before .before .before .before .before .before .before .before .before .before .before .along .ensures, c .before .before .before .before .before .before .before .before .before .before .along2 .ensures) at (c .before .before .before .before .before .before .walk-edges .ensures) in
+    edges-told _ _ (fitted (c .before .before .before .before .before .before .before .before .before .before .before .before .before .before .before .fits2 .ensures) (c .before .before .before .before .before .before .before .before .before .before .before .before .before .before .if1 .left)) (c .before .before .before .before .before .before .before .before .before .before .before .before .if2 .left) _ e
+
+pub edges-spec : {M : Type 1} → statement M
+edges-spec =
+    tie.close
+    (tie.spec
+    (λ c κs. search needs)
+    returns
+    returns-2
+    along-requires
+    along-requires-2
+    walk-edges-requires
+    (λ c. search needs)
+    (λ c. search needs)
+    (λ c. search needs)
+    returns-3)
