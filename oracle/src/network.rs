@@ -13,7 +13,7 @@ pub const NODE_ROWS: usize = 256;
 /// Edge rows of `netrun`'s network.
 pub const EDGE_ROWS: usize = 1_024;
 
-/// Why a command was refused, by document 01's number.
+/// Why a command was refused, by the order's number.
 #[derive(Clone, Copy, Debug, PartialEq, Eq)]
 pub enum Refusal {
     /// No row for one more.

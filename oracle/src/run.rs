@@ -10,7 +10,7 @@ pub const SCRIPT_LIMIT: usize = 16_384;
 /// The longest output; a longer buffer counts as one of this length.
 pub const OUTPUT_LIMIT: usize = 16_384;
 
-/// The run's answers, by document 01's numbers.
+/// The run's answers, by the order's numbers.
 const DONE: u64 = 0;
 const SCRIPT_TOO_LONG: u64 = 1;
 const OUTPUT_FULL: u64 = 7;

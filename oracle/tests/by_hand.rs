@@ -1,4 +1,4 @@
-//! The cases that document 01 tried by hand.
+//! The cases that the order tried by hand.
 
 use oracle::graph::{EdgeDirection, EdgeIndex, NodeIndex};
 use oracle::line::{lines, parse};

@@ -1,4 +1,4 @@
-//! Rows read, counted a second time: by making the searches of document 01 on tables of
+//! Rows read, counted a second time: by making the searches of the order on tables of
 //! rows and counting every edge row that one visits.
 
 use oracle::generate::script;

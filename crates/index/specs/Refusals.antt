@@ -1,4 +1,4 @@
--- The answer numbers of document 01; 0 is `done`.
+-- The answer numbers of the order; 0 is `done`.
 use Prim.Native.Nat.{ℕ}
 use Rattle.index.specs.declared.Refusal.{Refusal}
 use Rattle.index.specs.declared.Refusal.the-variants.{Tables, Full, NoNode, NoEdge, Nothing, Broken, Short, NotImage, Version, NotCommand}

@@ -3,7 +3,8 @@ use Prim.Native.Nat.{ℕ, zero, suc, _+_, _-_, _^_, _≤_, _<_}
 use mathlib.Core.Path.{_≡_, refl, sym, ap, _∙_}
 use mathlib.Core.Bool.{Bool, true, false, cond}
 use mathlib.Core.List.{List, [], _∷_, _++_, append-assoc, append-nil}
-use borrow.Author.Tests.{lt-ltb, le-ltb}
+use borrow.Author.Tests.{lt-ltb, le-ltb, ltb-true}
+use lib.Dec.{ltb}
 use lib.ListN.{length, length-append}
 use native.Mathlib.Nat.{sub-zero}
 use native.Mathlib.Omega.{arith}
@@ -98,3 +99,18 @@ filter-takes p xs e h = filter-append p xs (e ∷ []) ∙ ap (λ b. filter p xs 
 
 pub filter-leaves : (p : ℕ → Bool) (xs : List ℕ) (e : ℕ) → p e ≡ false → filter p (xs ++ (e ∷ [])) ≡ filter p xs
 filter-leaves p xs e h = filter-append p xs (e ∷ []) ∙ ap (λ b. filter p xs ++ cond b (e ∷ []) []) h ∙ append-nil (filter p xs)
+
+-- a row that a walk takes is below m
+pub taken-below : (next : ℕ → ℕ) (m : ℕ) (p : ℕ → Bool) (left e x : ℕ) (xs : List ℕ) → filter p (walk next m left e) ≡ x ∷ xs → x < m
+unfolding walk
+taken-below next m p zero e x xs h = absurd (let z : _≡_ {A = ℕ} 0 1 = cc in omega arith)
+taken-below next m p (suc left) e x xs h = go (ltb e m) refl (p e) refl (taken-below next m p left (next e)) h
+  where
+    go : (b : Bool) → ltb e m ≡ b → (d : Bool) → p e ≡ d → ((x : ℕ) (xs : List ℕ) → filter p (walk next m left (next e)) ≡ x ∷ xs → x < m)
+        → filter p (cond b (e ∷ walk next m left (next e)) []) ≡ x ∷ xs → x < m
+    go false q d r ih h = absurd (let z : _≡_ {A = ℕ} 0 1 = cc in omega arith)
+    go true q true r ih h =
+        let g : e ∷ filter p (walk next m left (next e)) ≡ x ∷ xs = rw r at h in
+        let z : e ≡ x = cc in
+        rw z at (ltb-true e m q)
+    go true q false r ih h = ih x xs (rw r at h)

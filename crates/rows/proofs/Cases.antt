@@ -1,18 +1,11 @@
 -- Network A of the order, built by the definitions from an empty network, computes to its rows. Assumes nothing.
-use Prim.Native.Nat.{ℕ, _*_}
 use mathlib.Core.Path.{_≡_, refl}
-use mathlib.Core.List.{List, [], _∷_}
 use lib.IntN.{pos, negsuc}
-use lib.ListN.{replicate}
-use Rattle.index.specs.Index.{END}
-use Rattle.tables.specs.Net.{Net, net, fit}
+use Rattle.tables.specs.Net.{Net, fit}
 use Rattle.tables.specs.Answers.{Out}
 use Rattle.tables.specs.Rows.{withNode, withEdge}
+use Rattle.tables.proofs.NetworkA.{empty, networkA}
 use Rattle.rows.specs.Calls.{addNode, addEdge, linked}
-
--- an empty network: every row vacant
-abbrev pub empty : ℕ → ℕ → Net
-empty nodes edges = net (replicate nodes (pos 0)) (replicate (2 * nodes) END) (replicate edges 0) (replicate (2 * edges) END) (replicate (2 * edges) END) 0 0
 
 -- what a call leaves is what the next one finds
 abbrev nodes : Net → Net
@@ -20,18 +13,6 @@ nodes g = addNode (addNode (addNode g (pos 5) .after) (negsuc 2) .after) (pos 8)
 
 abbrev edges : Net → Net
 edges g = addEdge (addEdge (addEdge (addEdge g 0 1 10 .after) 1 2 11 .after) 0 2 12 .after) 1 1 13 .after
-
--- N 5, N -3, N 8, then E 0 1 10, E 1 2 11, E 0 2 12, E 1 1 13
-pub networkA : Net
-networkA =
-    net
-    (pos 5 ∷ negsuc 2 ∷ pos 8 ∷ [])
-    (2 ∷ END ∷ 3 ∷ 3 ∷ END ∷ 2 ∷ [])
-    (10 ∷ 11 ∷ 12 ∷ 13 ∷ [])
-    (END ∷ END ∷ END ∷ END ∷ 0 ∷ 1 ∷ 1 ∷ 0 ∷ [])
-    (0 ∷ 1 ∷ 1 ∷ 2 ∷ 0 ∷ 2 ∷ 1 ∷ 1 ∷ [])
-    3
-    4
 
 pub network-a : edges (nodes (empty 3 4)) ≡ networkA
 unfolding networkA addNode addEdge linked fit withNode withEdge

@@ -1,3 +1,5 @@
 pub mod Laws
 pub mod Front
 pub mod Told
+pub mod NetworkA
+pub mod Vacant

@@ -21,7 +21,7 @@ use Rattle.tables.specs.declared.answers.Items.{Items}
 use Rattle.tables.specs.declared.answers.Items.the-variants as Items·
 
 -- an answer that can be told back is told by no other
-told-once : {A R : Type 0} (told : R → Told A) (back : Told A → R) → ((r : R) → back (told r) ≡ r) → (r s : R) → told r ≡ told s → r ≡ s
+pub told-once : {T R : Type 0} (told : R → T) (back : T → R) → ((r : R) → back (told r) ≡ r) → (r s : R) → told r ≡ told s → r ≡ s
 told-once told back is r s e = sym (is r) ∙ ap back e ∙ is s
 
 abbrev node-back : Told ℕ → NodeAnswer

@@ -1,4 +1,4 @@
--- What an answer tells: document 01's number for it, and its values. A refusal tells its number and zeros.
+-- What an answer tells: the order's number for it, and its values. A refusal tells its number and zeros.
 use Prim.{Unit, tt}
 use Prim.Native.Nat.{ℕ}
 use mathlib.Core.Bool.{Bool, cond}
@@ -42,7 +42,7 @@ pub record Out (A S : Type 0) : Type 0 where
 abbrev pub out : {A S : Type 0} → Told A → S → Out A S
 out answer after = record { answer = answer; after = after }
 
--- a call's refusals stand one below the other, in document 01's order
+-- a call's refusals stand one below the other, in the order's sequence
 abbrev pub unless : {A : Type 0} → Bool → A → A → A
 unless holds otherwise rest = cond holds rest otherwise
 

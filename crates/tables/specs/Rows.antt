@@ -20,6 +20,25 @@ vacantNode = bare (pos 0)
 abbrev pub vacantEdge : Edge
 vacantEdge = record { weight = 0; outgoing = record { 0 = END }; incoming = record { 0 = END }; source = record { 0 = END }; target = record { 0 = END } }
 
+-- the rows of a network
+abbrev pub nodeRow : Net → ℕ → Node
+nodeRow g a =
+    record {
+      weight = getD (g .weights) a (pos 0);
+      outgoing = record { 0 = getD (g .heads) (nodeCell a 0) 0 };
+      incoming = record { 0 = getD (g .heads) (nodeCell a 1) 0 };
+    }
+
+abbrev pub edgeRow : Net → ℕ → Edge
+edgeRow g e =
+    record {
+      weight = getD (g .registers) e 0;
+      outgoing = record { 0 = getD (g .links) (edgeCell e 0) 0 };
+      incoming = record { 0 = getD (g .links) (edgeCell e 1) 0 };
+      source = record { 0 = getD (g .ends) (edgeCell e 0) 0 };
+      target = record { 0 = getD (g .ends) (edgeCell e 1) 0 };
+    }
+
 -- the columns with one row written
 abbrev pub headsWith : List ℕ → ℕ → Node → List ℕ
 headsWith heads a row = set (set heads (nodeCell a 0) (row .outgoing .0)) (nodeCell a 1) (row .incoming .0)

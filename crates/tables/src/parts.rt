@@ -1,6 +1,5 @@
 // What the calls are made of. Only parts may demand something of their caller.
 ghost use mathlib.Core.Path.{_≡_};
-ghost use Prim.Native.Nat.{_≤_};
 ghost use lib.ListN.{length, replicate};
 ghost use lib.IntN.{pos};
 ghost use Rattle.tables.specs.Net.{fits, entering};

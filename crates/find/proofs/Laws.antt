@@ -1,0 +1,101 @@
+-- What the first match of a list says of the search of both, and what a search comes to. Assumes nothing.
+use Prim.Native.Nat.{ℕ, _-_, _<_}
+use mathlib.Core.Path.{_≡_, refl, sym, ap, _∙_}
+use mathlib.Core.Bool.{Bool, true, false, cond}
+use mathlib.Core.List.{List, [], _∷_}
+use mathlib.Core.Logic.{_⊎_, inl, inr, ⊎-elim}
+use borrow.Author.Tests.{lt-ltb}
+use native.Mathlib.Omega.{arith}
+use lib.Dec.{ltb}
+use lib.ListN.{getD, set}
+use Rattle.tables.specs.Net.{Net, fits, withEdges, nodeCell}
+use Rattle.tables.specs.Answers.{out, done, refused}
+use Rattle.index.specs.declared.Refusal.the-variants.{Nothing, Broken}
+use Rattle.rows.specs.Calls.{addEdge}
+use Rattle.index.specs.declared.EdgeIndex.{EdgeIndex}
+use Rattle.lists.specs.declared.Found.{Found}
+use Rattle.lists.specs.declared.Found.the-variants as Found·
+use Rattle.lists.specs.declared.Pick.the-variants.{To}
+use Rattle.lists.specs.Walk.{cell, picked, takenFrom, stopFrom, firstOf}
+use Rattle.find.specs.declared.Sought.{Sought}
+use Rattle.find.specs.declared.Sought.the-variants.{Row, Missing, Endless}
+use Rattle.find.specs.Parts.{firstIn, searched, soughtFrom}
+use Rattle.find.specs.Find.{on, findEdge, containsEdge, updateEdge}
+use Rattle.lists.proofs.Walks.{taken-below}
+
+abbrev at-end : ℕ → Bool → Found
+at-end s b = cond b Found·.Broken (Found·.End (record { 0 = s }))
+
+module _ (k m s : ℕ) (next : Sought) where
+  pub found-row : (xs : List ℕ) {e : EdgeIndex} → firstOf xs m s ≡ Found·.At e → firstIn k xs (ltb s m) next ≡ Row e k
+  found-row (x ∷ xs) {e} h = ap (λ (z : EdgeIndex). Row z k) (cc)
+  found-row [] {e} h = go (ltb s m) h
+    where
+      go : (b : Bool) → at-end s b ≡ Found·.At e → cond b Endless next ≡ Row e k
+      go true h = absurd (let z : _≡_ {A = ℕ} 0 1 = cc in omega arith)
+      go false h = absurd (let z : _≡_ {A = ℕ} 0 1 = cc in omega arith)
+
+  pub found-broken : (xs : List ℕ) → firstOf xs m s ≡ Found·.Broken → firstIn k xs (ltb s m) next ≡ Endless
+  found-broken (x ∷ xs) h = absurd (let z : _≡_ {A = ℕ} 0 1 = cc in omega arith)
+  found-broken [] h = go (ltb s m) h
+    where
+      go : (b : Bool) → at-end s b ≡ Found·.Broken → cond b Endless next ≡ Endless
+      go true h = refl
+      go false h = absurd (let z : _≡_ {A = ℕ} 0 1 = cc in omega arith)
+
+  pub found-end : (xs : List ℕ) {e : EdgeIndex} → firstOf xs m s ≡ Found·.End e → firstIn k xs (ltb s m) next ≡ next
+  found-end (x ∷ xs) {e} h = absurd (let z : _≡_ {A = ℕ} 0 1 = cc in omega arith)
+  found-end [] {e} h = go (ltb s m) h
+    where
+      go : (b : Bool) → at-end s b ≡ Found·.End e → cond b Endless next ≡ next
+      go true h = absurd (let z : _≡_ {A = ℕ} 0 1 = cc in omega arith)
+      go false h = refl
+
+-- the same of a node's list
+module _ (heads links ends : List ℕ) (m a b k : ℕ) (next : Sought) where
+  abbrev outcome : Found
+  outcome = firstOf (takenFrom links ends m k (To (record { 0 = b })) (getD heads (nodeCell a k) 0)) m (stopFrom links m k (getD heads (nodeCell a k) 0))
+
+  pub search-row : {e : EdgeIndex} → outcome ≡ Found·.At e → Row e k ≡ searched heads links ends m a b k next
+  search-row h = sym (found-row k m _ next (takenFrom links ends m k (To (record { 0 = b })) (getD heads (nodeCell a k) 0)) h)
+
+  pub search-broken : outcome ≡ Found·.Broken → Endless ≡ searched heads links ends m a b k next
+  search-broken h = sym (found-broken k m _ next (takenFrom links ends m k (To (record { 0 = b })) (getD heads (nodeCell a k) 0)) h)
+
+  pub search-end : {e : EdgeIndex} → outcome ≡ Found·.End e → next ≡ searched heads links ends m a b k next
+  search-end h = sym (found-end k m _ next (takenFrom links ends m k (To (record { 0 = b })) (getD heads (nodeCell a k) 0)) h)
+
+-- the row that a search finds is below m
+module _ (heads links ends : List ℕ) (m a b : ℕ) where
+  list-below : (k : ℕ) (next : Sought) {e : EdgeIndex} {j : ℕ} → searched heads links ends m a b k next ≡ Row e j → (e .0 < m) ⊎ (next ≡ Row e j)
+  list-below k next {e} {j} h = go (takenFrom links ends m k (To (record { 0 = b })) link) refl (ltb (stopFrom links m k link) m) h
+    where
+      link : ℕ
+      link = getD heads (nodeCell a k) 0
+
+      go : (xs : List ℕ) → takenFrom links ends m k (To (record { 0 = b })) link ≡ xs → (d : Bool) → firstIn k xs d next ≡ Row e j → (e .0 < m) ⊎ (next ≡ Row e j)
+      go (x ∷ xs) q d h =
+          let z : x ≡ e .0 = ap (λ (y : EdgeIndex). y .0) (cc) in
+          inl (rw z at (taken-below (cell links k) m (λ y. picked (To (record { 0 = b })) (cell ends (1 - k) y)) m link x xs q))
+      go [] q true h = absurd (let z : _≡_ {A = ℕ} 0 1 = cc in omega arith)
+      go [] q false h = inr h
+
+  pub sought-below : {e : EdgeIndex} {j : ℕ} → soughtFrom heads links ends m a b ≡ Row e j → e .0 < m
+  unfolding soughtFrom
+  sought-below h =
+      ⊎-elim (λ l. l) (λ n. ⊎-elim (λ l. l) (λ z. absurd (let y : _≡_ {A = ℕ} 0 1 = cc in omega arith)) (list-below 1 Missing n)) (list-below 0 (searched heads links ends m a b 1 Missing) h)
+
+-- what each call tells of a search
+module _ (g : Net) (a b : ℕ) (f : fits g ≡ true) (h : a < g .n) {s : Sought} (e : soughtFrom (g .heads) (g .links) (g .ends) (g .m) a b ≡ s) where
+  pub find-told : on s (λ x. done x) (refused Nothing 0) (refused Broken 0) ≡ findEdge g a b
+  unfolding findEdge
+  find-told = rw (f, lt-ltb _ _ h, e)
+
+  pub contains-told : on s (λ x. done 1) (done 0) (refused Broken 0) ≡ containsEdge g a b
+  unfolding containsEdge
+  contains-told = rw (f, lt-ltb _ _ h, e)
+
+  pub update-told : (w : ℕ)
+      → on s (λ x. out (done x) (withEdges g (set (g .registers) x w) (g .links) (g .ends))) (addEdge g a b w) (out (refused Broken 0) g) ≡ updateEdge g a b w
+  unfolding updateEdge
+  update-told w = rw (f, lt-ltb _ _ h, e)
