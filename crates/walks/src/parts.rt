@@ -122,7 +122,7 @@ pub fn walk(
 {
     let both = settle(links, ends, m, first, second);
     let Settled::Rows(rows, mid, others, end) = both else {
-        return Items::Refused(Refusal::Broken);
+        return Items::Refused(Refusal::Broken); // before 7
     };
     if items.len() < end as usize {
         return Items::Refused(Refusal::Short);
