@@ -16,7 +16,8 @@ use Rattle.index.specs.declared.EdgeIndex.{EdgeIndex}
 use Rattle.lists.specs.declared.Found.{Found}
 use Rattle.lists.specs.declared.Found.the-variants as Found·
 use Rattle.lists.specs.declared.Pick.the-variants.{To}
-use Rattle.lists.specs.Walk.{cell, picked, takenFrom, stopFrom, firstOf}
+use Rattle.lists.specs.Walk.{cell, picked, takenFrom, stopFrom}
+use Rattle.lists.specs.Parts.{firstOf}
 use Rattle.find.specs.declared.Sought.{Sought}
 use Rattle.find.specs.declared.Sought.the-variants.{Row, Missing, Endless}
 use Rattle.find.specs.Parts.{firstIn, searched, soughtFrom}

@@ -7,7 +7,8 @@ use borrow.Author.Tests.{lt-ltb, le-ltb}
 use native.Mathlib.Omega.{arith}
 use lib.Dec.{ltb}
 use lib.ListN.{length, length-append}
-use Rattle.lists.specs.Walk.{walk, stop, filter, countOf}
+use Rattle.lists.specs.Walk.{walk, stop, filter}
+use Rattle.lists.specs.Parts.{countOf}
 use Rattle.lists.specs.declared.Counted.{Counted}
 use Rattle.lists.specs.declared.Counted.the-variants.{Rows, Broken}
 use Rattle.lists.proofs.Walks.{Along, all-met, stops-here, stops-short, filter-takes, filter-leaves}

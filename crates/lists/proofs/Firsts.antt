@@ -5,7 +5,8 @@ use mathlib.Core.Bool.{Bool, true, false}
 use mathlib.Core.List.{List, [], _∷_, _++_}
 use borrow.Author.Tests.{lt-ltb, le-ltb}
 use native.Mathlib.Omega.{arith}
-use Rattle.lists.specs.Walk.{walk, stop, filter, firstOf}
+use Rattle.lists.specs.Walk.{walk, stop, filter}
+use Rattle.lists.specs.Parts.{firstOf}
 use Rattle.lists.specs.declared.Found.{Found}
 use Rattle.lists.specs.declared.Found.the-variants.{At, End, Broken}
 use Rattle.lists.proofs.Walks.{Along, walk-out, rest, all-met, stops-here, stops-short, filter-append}

@@ -1,24 +1,16 @@
 -- The lists of a network: where a link stands, and the rows that are met from a link on.
-use Prim.Native.Nat.{ℕ, zero, suc, _+_, _-_, _*_, _<_, _≤_}
-use mathlib.Core.Path.{_≡_}
+use Prim.Native.Nat.{ℕ, zero, suc, _-_}
 use mathlib.Core.Bool.{Bool, true, cond, not, _&&_}
 use mathlib.Core.List.{List, [], _∷_, _++_, map}
 use lib.Dec.{ltb, eqb}
-use lib.ListN.{length, getD}
-use Rattle.index.specs.Index.{END}
-use Rattle.tables.specs.Net.{Net, edgeCells, nodeCell, edgeCell}
+use lib.ListN.{getD}
+use Rattle.tables.specs.Net.{Net, nodeCell, edgeCell}
 use Rattle.lists.specs.declared.Spot.{Spot}
 use Rattle.lists.specs.declared.Spot.the-variants.{Head, After}
 use Rattle.lists.specs.declared.Pick.{Pick}
 use Rattle.lists.specs.declared.Pick.the-variants.{Every, To, NotTo, ToNot}
 use Rattle.lists.specs.declared.Item.{Item}
 use Rattle.lists.specs.declared.Item.the-variants.{Number, Near, Far, Weight}
-use Rattle.lists.specs.declared.Found.{Found}
-use Rattle.lists.specs.declared.Found.the-variants.{At, End}
-use Rattle.lists.specs.declared.Found.the-variants as Found·
-use Rattle.lists.specs.declared.Counted.{Counted}
-use Rattle.lists.specs.declared.Counted.the-variants.{Rows}
-use Rattle.lists.specs.declared.Counted.the-variants as Counted·
 
 -- the cell of row e in direction k: in `links` its next edge, in `ends` the node whose list that is
 abbrev pub cell : List ℕ → ℕ → ℕ → ℕ
@@ -68,21 +60,6 @@ takenFrom links ends m k pick e = filter (λ x. picked pick (cell ends (1 - k) x
 abbrev pub stopFrom : List ℕ → (m k e : ℕ) → ℕ
 stopFrom links m k e = stop (cell links k) m m e
 
--- the first row that a walk takes; else where the list ends, unless it is broken
-abbrev pub firstOf : List ℕ → (m s : ℕ) → Found
-firstOf (e ∷ es) m s = At (record { 0 = e })
-firstOf [] m s = cond (ltb s m) Found·.Broken (End (record { 0 = s }))
-
--- how many rows a list has, and how many of them a walk takes, unless it is broken
-abbrev pub countOf : List ℕ → List ℕ → (m s : ℕ) → Counted
-countOf rows taken m s = cond (ltb s m) Counted·.Broken (Rows (length rows) (length taken))
-
--- the columns hold the cells of m edges, and k is a direction
-pub record Edges (links ends m k : ℕ) : Type 0 where
-  pub links-hold : edgeCells * m ≤ links
-  pub ends-hold : edgeCells * m ≤ ends
-  pub direction : k < 2
-
 -- node a's list in direction k: the rows that a walk takes of it, and whether it is broken
 abbrev pub picks : Net → ℕ → Pick → ℕ → List ℕ
 picks g k pick a = takenFrom (g .links) (g .ends) (g .m) k pick (linkAt g k (Head a))
@@ -97,16 +74,3 @@ gives g item k e = itemOf (g .registers) (g .ends) item k e
 -- the walk around node a: its outgoing list, then its incoming list without self-loops
 abbrev pub around : Net → Item → ℕ → List ℕ
 around g item a = map (gives g item 0) (picks g 0 Every a) ++ map (gives g item 1) (picks g 1 (NotTo (record { 0 = a })) a)
-
--- row e has its cells, and k is a direction
-pub record HasRow (registers ends k e : ℕ) : Type 0 where
-  pub registers-hold : e < registers
-  pub ends-hold : edgeCell e 1 < ends
-  pub direction : k < 2
-
--- the columns hold m edges, the list from `link` on has `rows` rows, and the table is as long as what the walk takes of it
-pub record Gives (registers links ends : List ℕ) (m k : ℕ) (pick : Pick) (link rows items : ℕ) : Type 0 where
-  pub edges : Edges (length links) (length ends) m k
-  pub registers-hold : m ≤ length registers
-  pub all-rows : length (rowsFrom links m k link) ≡ rows
-  pub all-taken : length (takenFrom links ends m k pick link) ≡ items

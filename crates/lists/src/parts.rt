@@ -2,7 +2,8 @@
 ghost use mathlib.Core.Path.{_≡_};
 ghost use lib.ListN.{length};
 ghost use mathlib.Core.List.{map};
-ghost use Rattle.lists.specs.Walk.{picked, rowsFrom, takenFrom, stopFrom, firstOf, countOf, itemOf, Edges, Gives, HasRow};
+ghost use Rattle.lists.specs.Walk.{picked, rowsFrom, takenFrom, stopFrom, itemOf};
+ghost use Rattle.lists.specs.Parts.{firstOf, countOf, Edges, Gives, HasRow};
 use crate::Counted;
 use crate::Found;
 use crate::Item;

@@ -8,7 +8,8 @@ use lib.ListN.{length, getD, take, drop, replicate, getD-replicate, length-repli
 use lib.Seq.{length-take-le, getD-append-add}
 use Rattle.index.specs.Index.{END}
 use Rattle.tables.specs.Net.{Net, nodeCells, edgeCells, nodeCell, edgeCell}
-use Rattle.tables.specs.Rows.{nodeRow, edgeRow, vacantNode, vacantEdge, filled, vacantNodes, vacantEdges, NodeSpan, EdgeSpan}
+use Rattle.tables.specs.Rows.{nodeRow, edgeRow, vacantNode, vacantEdge, filled, vacantNodes, vacantEdges}
+use Rattle.tables.specs.Parts.{NodeSpan, EdgeSpan}
 
 -- a cell of the span holds x
 pub filled-at : {A : Type 0} (l : List A) (first last : ℕ) (x : A) (i : ℕ) (d : A) → first ≤ i → i < last → last ≤ length l → getD (filled l first last x) i d ≡ x

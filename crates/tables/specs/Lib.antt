@@ -1,3 +1,4 @@
 pub mod Net
 pub mod Rows
 pub mod Answers
+pub mod Parts

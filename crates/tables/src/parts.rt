@@ -3,7 +3,7 @@ ghost use mathlib.Core.Path.{_≡_};
 ghost use lib.ListN.{length, replicate};
 ghost use lib.IntN.{pos};
 ghost use Rattle.tables.specs.Net.{fits, entering};
-ghost use Rattle.tables.specs.Rows.{NodeRow, EdgeRow, WritesNode, WritesEdge, NodeSpan, EdgeSpan, VacatesNodes, VacatesEdges, Linkable, LinksEdge};
+ghost use Rattle.tables.specs.Parts.{NodeRow, EdgeRow, WritesNode, WritesEdge, NodeSpan, EdgeSpan, VacatesNodes, VacatesEdges, Linkable, LinksEdge};
 use crate::rows::Edge;
 use crate::rows::Node;
 use index::EdgeIndex;

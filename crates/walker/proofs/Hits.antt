@@ -14,7 +14,8 @@ use Rattle.tables.specs.Answers.{out, done, refused}
 use Rattle.lists.specs.declared.Found.the-variants.{At, End, Broken}
 use Rattle.lists.specs.declared.Pick.the-variants.{NotTo}
 use Rattle.lists.specs.declared.Item.the-variants.{Far}
-use Rattle.lists.specs.Walk.{cell, walk, filter, gives, firstOf, takenFrom, stopFrom}
+use Rattle.lists.specs.Walk.{cell, walk, filter, gives, takenFrom, stopFrom}
+use Rattle.lists.specs.Parts.{firstOf}
 use Rattle.lists.proofs.Walks.{taken-below}
 use Rattle.walker.specs.declared.Walker.{Walker}
 use Rattle.walker.specs.Steps.{withIncoming, incomingStep, step}

@@ -12,7 +12,8 @@ use Rattle.tables.specs.Net.{Net, fits}
 use Rattle.tables.specs.Answers.{Told, done, refused, unless}
 use Rattle.lists.specs.declared.Pick.{Pick}
 use Rattle.lists.specs.declared.Item.the-variants.{Far}
-use Rattle.lists.specs.Walk.{cell, takenFrom, stopFrom, broken, around, Edges}
+use Rattle.lists.specs.Walk.{cell, takenFrom, stopFrom, broken, around}
+use Rattle.lists.specs.Parts.{Edges}
 use Rattle.walker.specs.declared.Summed.{Summed}
 use Rattle.walker.specs.declared.Summed.the-variants as Summed·
 use Rattle.walker.specs.declared.Tally.{Tally}

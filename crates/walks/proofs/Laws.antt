@@ -14,7 +14,8 @@ use Rattle.index.specs.declared.Refusal.the-variants.{Broken, Short}
 use Rattle.lists.specs.declared.Item.{Item}
 use Rattle.lists.specs.declared.Item.the-variants.{Number, Near, Far}
 use Rattle.lists.specs.declared.Counted.the-variants as Counted·
-use Rattle.lists.specs.Walk.{cell, picked, rowsFrom, stopFrom, countOf, itemOf}
+use Rattle.lists.specs.Walk.{cell, picked, rowsFrom, stopFrom, itemOf}
+use Rattle.lists.specs.Parts.{countOf}
 use Rattle.lists.proofs.Counts.{filter-length, count-broken, count-rows}
 use Rattle.lists.proofs.Gives.{walk-length}
 use Rattle.walks.specs.declared.parts.Leg.{Leg}

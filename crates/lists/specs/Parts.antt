@@ -1,0 +1,42 @@
+-- What the parts answer, and what they ask of their callers.
+use Prim.Native.Nat.{ℕ, _*_, _<_, _≤_}
+use mathlib.Core.Path.{_≡_}
+use mathlib.Core.Bool.{cond}
+use mathlib.Core.List.{List, [], _∷_}
+use lib.Dec.{ltb}
+use lib.ListN.{length}
+use Rattle.tables.specs.Net.{edgeCells, edgeCell}
+use Rattle.lists.specs.declared.Pick.{Pick}
+use Rattle.lists.specs.declared.Found.{Found}
+use Rattle.lists.specs.declared.Found.the-variants as Found·
+use Rattle.lists.specs.declared.Counted.{Counted}
+use Rattle.lists.specs.declared.Counted.the-variants as Counted·
+use Rattle.lists.specs.Walk.{rowsFrom, takenFrom}
+
+-- the first row that a walk takes; else where the list ends, unless it is broken
+abbrev pub firstOf : List ℕ → (m s : ℕ) → Found
+firstOf (e ∷ es) m s = Found·.At (record { 0 = e })
+firstOf [] m s = cond (ltb s m) Found·.Broken (Found·.End (record { 0 = s }))
+
+-- how many rows a list has, and how many of them a walk takes, unless it is broken
+abbrev pub countOf : List ℕ → List ℕ → (m s : ℕ) → Counted
+countOf rows taken m s = cond (ltb s m) Counted·.Broken (Counted·.Rows (length rows) (length taken))
+
+-- the columns hold the cells of m edges, and k is a direction
+pub record Edges (links ends m k : ℕ) : Type 0 where
+  pub links-hold : edgeCells * m ≤ links
+  pub ends-hold : edgeCells * m ≤ ends
+  pub direction : k < 2
+
+-- row e has its cells, and k is a direction
+pub record HasRow (registers ends k e : ℕ) : Type 0 where
+  pub registers-hold : e < registers
+  pub ends-hold : edgeCell e 1 < ends
+  pub direction : k < 2
+
+-- the columns hold m edges, the list from `link` on has `rows` rows, and the table is as long as what the walk takes of it
+pub record Gives (registers links ends : List ℕ) (m k : ℕ) (pick : Pick) (link rows items : ℕ) : Type 0 where
+  pub edges : Edges (length links) (length ends) m k
+  pub registers-hold : m ≤ length registers
+  pub all-rows : length (rowsFrom links m k link) ≡ rows
+  pub all-taken : length (takenFrom links ends m k pick link) ≡ items
