@@ -16,10 +16,13 @@ use Rattle.lists.specs.declared.Item.the-variants.{Number, Near, Far, We
 abbrev pub cell : List ℕ → ℕ → ℕ → ℕ
 cell column k e = getD column (edgeCell e k) 0
 
--- one direction of a network: the link that stands at a spot
+-- one direction of two columns, or of a network: the link that stands at a spot
+abbrev pub linkIn : List ℕ → List ℕ → ℕ → Spot → ℕ
+linkIn heads links k (Head a) = getD heads (nodeCell a k) 0
+linkIn heads links k (After e) = cell links k e
+
 abbrev pub linkAt : Net → ℕ → Spot → ℕ
-linkAt g k (Head a) = getD (g .heads) (nodeCell a k) 0
-linkAt g k (After e) = cell (g .links) k e
+linkAt g k = linkIn (g .heads) (g .links) k
 
 -- the rows met from link e on, at most `left` of them: a list ends at any link not below m
 unfoldable pub walk : (ℕ → ℕ) → (m left e : ℕ) → List ℕ

@@ -8,7 +8,7 @@ use borrow.Author.Tests.{lt-ltb, le-leb}
 use lib.IntN.{ℤ, pos}
 use lib.ListN.{length, set, take, drop}
 use lib.Seq.{length-take-le}
-use Rattle.tables.specs.declared.rows.Node.{Node}
+use Rattle.tables.specs.declared.row.Node.{Node}
 use Rattle.index.specs.Index.{END}
 use Rattle.tables.specs.Net.{Net, net, fits, nodeCells, edgeCells}
 use Rattle.tables.specs.Answers.{out, done}

@@ -5,8 +5,8 @@ use denote.Ref.{now}
 use lib.IntN.{ℤ, pos}
 use lib.ListN.{set}
 use Rattle.index.specs.Index.{END}
-use Rattle.tables.specs.declared.rows.Node.{Node}
-use Rattle.tables.specs.declared.rows.Edge.{Edge}
+use Rattle.tables.specs.declared.row.Node.{Node}
+use Rattle.tables.specs.declared.row.Edge.{Edge}
 use Rattle.tables.specs.Net.{Lent, nodeCells, edgeCells, nodeCell, edgeCell}
 use Rattle.tables.specs.Rows.{headsWith, linksWith, endsWith, newEdge, headed, filled}
 

@@ -4,8 +4,8 @@ use mathlib.Core.List.{List, _++_}
 use lib.IntN.{ℤ, pos}
 use lib.ListN.{getD, set, take, drop, replicate}
 use Rattle.index.specs.Index.{END}
-use Rattle.tables.specs.declared.rows.Node.{Node}
-use Rattle.tables.specs.declared.rows.Edge.{Edge}
+use Rattle.tables.specs.declared.row.Node.{Node}
+use Rattle.tables.specs.declared.row.Edge.{Edge}
 use Rattle.tables.specs.Net.{Net, withNodes, withEdges, nodeCells, edgeCells, nodeCell, edgeCell}
 
 -- a node with no edges; a vacant row is one of weight 0

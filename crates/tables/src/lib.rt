@@ -6,9 +6,9 @@ pub use answers::Endpoints;
 pub use answers::Items;
 pub use answers::NodeAnswer;
 pub use answers::NodeWeight;
-pub use rows::Edge;
-pub use rows::Node;
+pub use row::Edge;
+pub use row::Node;
 
 pub mod answers;
 pub mod parts;
-pub mod rows;
+pub mod row;

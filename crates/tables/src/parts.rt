@@ -4,8 +4,8 @@ ghost use lib.ListN.{length, replicate};
 ghost use lib.IntN.{pos};
 ghost use Rattle.tables.specs.Net.{fits, entering};
 ghost use Rattle.tables.specs.Parts.{NodeRow, EdgeRow, WritesNode, WritesEdge, NodeSpan, EdgeSpan, VacatesNodes, VacatesEdges, Linkable, LinksEdge};
-use crate::rows::Edge;
-use crate::rows::Node;
+use crate::row::Edge;
+use crate::row::Node;
 use index::EdgeIndex;
 use index::NodeIndex;
 

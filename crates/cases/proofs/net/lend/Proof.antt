@@ -1,0 +1,8 @@
+use mathlib.Core.Path.{sym}
+use native.Mathlib.Omega.{arith}
+use lib.Seq.{length-take-le}
+use Rattle.cases.proofs.net.lend.Statement.{statement}
+use Rattle.cases.proofs.net.lend.Tie as tie
+
+pub lend-spec : {M : Type 1} → statement M
+lend-spec = tie.close (tie.spec (λ c. (omega arith, sym (length-take-le _ _ (omega arith)))) (λ c. (omega arith, sym (length-take-le _ _ (omega arith)))))

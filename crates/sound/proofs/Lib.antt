@@ -1,0 +1,11 @@
+pub mod Walks
+pub mod Listings
+pub mod Same
+pub mod Exact
+pub mod Faults
+pub mod Exactly
+pub mod Literal
+pub mod Told
+pub mod Cases
+pub mod Direction
+pub mod Kept

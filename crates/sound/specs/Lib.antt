@@ -1,0 +1,5 @@
+pub mod Sound
+pub mod Check
+pub mod Answer
+pub mod Kept
+pub mod Parts
