@@ -1,5 +1,5 @@
 -- A sound network stays sound, and these are its lists: `node-set`, `edge-set`, `node-added`, `edge-added`, `edges-cleared`,
--- `all-cleared`; whatever the call answers: `node-kept`, `edge-kept`, `clear-edges-kept`, `clear-kept`. Rows at or past the counts,
+-- `all-cleared`; whatever the call answers: `node-kept`, `edge-kept`, `update-kept`, `clear-edges-kept`, `clear-kept`. Rows at or past the counts,
 -- and weights, have no part in it: `in-use`. Assumes nothing.
 use Prim.Native.Nat.{ℕ, _+_, _*_, _≤_, _<_}
 use mathlib.Core.Path.{_≡_, refl, sym, _∙_, subst}
@@ -21,6 +21,9 @@ use Rattle.rows.specs.Calls.{setNodeWeight, setEdgeWeight, addNode, linked, add
 use Rattle.lists.specs.declared.Spot.{Spot}
 use Rattle.lists.specs.declared.Spot.the-variants.{Head, After}
 use Rattle.lists.specs.Walk.{linkAt}
+use Rattle.find.specs.declared.Sought.{Sought}
+use Rattle.find.specs.declared.Sought.the-variants.{Row, Missing, Endless}
+use Rattle.find.specs.Find.{sought, on, updateEdge}
 use Rattle.sound.specs.Sound.{endAt, Sound, Lists}
 use Rattle.sound.specs.Kept.{nodeMore, edgeMore, bareLists}
 use Rattle.sound.proofs.Same.{counts, members}
@@ -244,3 +247,20 @@ clear-edges-kept g ls S = kept-by g (clearEdges g .after) ls (fits g) (λ f. (ba
 pub clear-kept : (g : Net) (ls : ℕ → ℕ → List ℕ) → Sound g ls → HasLists (clear g .after)
 unfolding clear
 clear-kept g ls S = kept-by g (clear g .after) ls (fits g) (λ f. (bareLists, all-cleared g f)) (λ f. rw f) S
+
+-- an update sets a weight, or adds an edge, or changes nothing
+on-left : {A : Type 0} (P : Net → Type 0) (s : Sought) (found : ℕ → Out A Net) (missing endless : Out A Net)
+    → ((e : ℕ) → P (found e .after)) → P (missing .after) → P (endless .after) → P (on s found missing endless .after)
+on-left P (Row e k) found missing endless p q r = p (e .0)
+on-left P Missing found missing endless p q r = q
+on-left P Endless found missing endless p q r = r
+
+pub update-kept : (g : Net) (ls : ℕ → ℕ → List ℕ) (a b w : ℕ) → Sound g ls → HasLists (updateEdge g a b w .after)
+unfolding updateEdge
+update-kept g ls a b w S =
+    left HasLists (fits g) _ _ (ls, S) (λ f.
+    left HasLists (ltb a (g .n)) _ _ (edge-kept g ls a b w S) (λ l.
+    on-left HasLists (sought g a b) _ _ _
+    (λ e. (ls, in-use g (withEdges g (set (g .registers) e w) (g .links) (g .ends)) ls f (other-weights g (g .weights) (set (g .registers) e w)) S))
+    (edge-kept g ls a b w S)
+    (ls, S)))
