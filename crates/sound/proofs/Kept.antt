@@ -1,8 +1,9 @@
--- A sound network stays sound, and these are its lists: `node-set`, `edge-set`, `node-added`, `edge-added`, `edges-cleared`,
+-- A sound network stays sound, and these are its lists: `node-set`, `edge-set`, `node-added`, `edge-added`, `updated`, `edges-cleared`,
 -- `all-cleared`; whatever the call answers: `node-kept`, `edge-kept`, `update-kept`, `clear-edges-kept`, `clear-kept`. Rows at or past the counts,
 -- and weights, have no part in it: `in-use`. Assumes nothing.
 use Prim.Native.Nat.{ℕ, _+_, _*_, _≤_, _<_}
 use mathlib.Core.Path.{_≡_, refl, sym, _∙_, subst}
+use mathlib.Core.Logic.{_⊎_, inl, inr, ⊎-elim}
 use mathlib.Core.Bool.{Bool, true, false, _&&_}
 use mathlib.Core.List.{List}
 use native.Mathlib.Omega.{arith}
@@ -248,19 +249,27 @@ pub clear-kept : (g : Net) (ls : ℕ → ℕ → List ℕ) → Sound g ls → Ha
 unfolding clear
 clear-kept g ls S = kept-by g (clear g .after) ls (fits g) (λ f. (bareLists, all-cleared g f)) (λ f. rw f) S
 
--- an update sets a weight, or adds an edge, or changes nothing
-on-left : {A : Type 0} (P : Net → Type 0) (s : Sought) (found : ℕ → Out A Net) (missing endless : Out A Net)
-    → ((e : ℕ) → P (found e .after)) → P (missing .after) → P (endless .after) → P (on s found missing endless .after)
-on-left P (Row e k) found missing endless p q r = p (e .0)
-on-left P Missing found missing endless p q r = q
-on-left P Endless found missing endless p q r = r
+-- an update leaves every list as it was, or is an add
+module _ {A : Type 0} (P : Out A Net → Type 0) where
+  either : (b : Bool) (refusal served : Out A Net) → P refusal → (b ≡ true → P served) → P (unless b refusal served)
+  either true refusal served p q = q refl
+  either false refusal served p q = p
+
+  sought-by : (s : Sought) (found : ℕ → Out A Net) (missing endless : Out A Net) → ((e : ℕ) → P (found e)) → P missing → P endless → P (on s found missing endless)
+  sought-by (Row e k) found missing endless p q r = p (e .0)
+  sought-by Missing found missing endless p q r = q
+  sought-by Endless found missing endless p q r = r
+
+pub updated : (g : Net) (ls : ℕ → ℕ → List ℕ) (a b w : ℕ) → Sound g ls → Sound (updateEdge g a b w .after) ls ⊎ (updateEdge g a b w ≡ addEdge g a b w)
+unfolding updateEdge
+updated g ls a b w S =
+    let P : Out ℕ Net → Type 0 = λ o. Sound (o .after) ls ⊎ (o ≡ addEdge g a b w) in
+    either P (fits g) _ _ (inl S) (λ f.
+    either P (ltb a (g .n)) _ _ (inr refl) (λ l.
+    sought-by P (sought g a b) _ _ _
+    (λ e. inl (in-use g (withEdges g (set (g .registers) e w) (g .links) (g .ends)) ls f (other-weights g (g .weights) (set (g .registers) e w)) S))
+    (inr refl)
+    (inl S)))
 
 pub update-kept : (g : Net) (ls : ℕ → ℕ → List ℕ) (a b w : ℕ) → Sound g ls → HasLists (updateEdge g a b w .after)
-unfolding updateEdge
-update-kept g ls a b w S =
-    left HasLists (fits g) _ _ (ls, S) (λ f.
-    left HasLists (ltb a (g .n)) _ _ (edge-kept g ls a b w S) (λ l.
-    on-left HasLists (sought g a b) _ _ _
-    (λ e. (ls, in-use g (withEdges g (set (g .registers) e w) (g .links) (g .ends)) ls f (other-weights g (g .weights) (set (g .registers) e w)) S))
-    (edge-kept g ls a b w S)
-    (ls, S)))
+update-kept g ls a b w S = ⊎-elim (λ T. (ls, T)) (λ e. subst (λ (o : Out ℕ Net). HasLists (o .after)) (sym e) (edge-kept g ls a b w S)) (updated g ls a b w S)
