@@ -6,7 +6,7 @@ use mathlib.Core.List.{List, _++_, map}
 use lib.Dec.{ltb, leb}
 use lib.ListN.{length, getD}
 use Rattle.index.specs.declared.Refusal.the-variants.{Broken, Short}
-use Rattle.tables.specs.Net.{nodeCell, edgeCells}
+use Rattle.tables.specs.Net.{edgeRows, nodeCell, edgeCells}
 use Rattle.tables.specs.Answers.{Out, out, done, refused, unless, onto, give}
 use Rattle.lists.specs.declared.Item.{Item}
 use Rattle.lists.specs.declared.Item.the-variants.{Number, Near, Far}
@@ -62,17 +62,21 @@ tables3 numbers sources targets = record { numbers = numbers; sources = sources;
 abbrev pub roomFor : ℕ → Tables3 → Bool
 roomFor count t = leb count (length (t .numbers)) && leb count (length (t .sources)) && leb count (length (t .targets))
 
--- number, near end and far end of each row that both take: turned round so, an incoming edge too runs from the node of the walk
+-- number, near end and far end of each row, or 7: turned round so, an incoming edge too runs from the node of the walk
+abbrev pub giveThree : (Item → List ℕ) → Tables3 → Out ℕ Tables3
+giveThree items t =
+    unless (roomFor (length (items Number)) t) (out (refused Short 0) t)
+    (out (done (length (items Number))) (tables3 (onto (items Number) (t .numbers)) (onto (items Near) (t .sources)) (onto (items Far) (t .targets))))
+
+-- the same of two legs, with 6 before 7
 abbrev pub edgesTold : List ℕ → List ℕ → List ℕ → ℕ → Leg → Leg → Tables3 → Out ℕ Tables3
 edgesTold registers links ends m first second t =
-    let items : Item → List ℕ = λ item. legsGive registers links ends m item first second in
     unless (legEnds links m first && legEnds links m second) (out (refused Broken 0) t)
-    (unless (roomFor (length (items Number)) t) (out (refused Short 0) t)
-    (out (done (length (items Number))) (tables3 (onto (items Number) (t .numbers)) (onto (items Near) (t .sources)) (onto (items Far) (t .targets)))))
+    (giveThree (λ item. legsGive registers links ends m item first second) t)
 
 -- the columns hold m edges, few enough for one table, and both legs have a direction
 pub record Legs (registers links ends m : ℕ) (first second : Leg) : Type 0 where
-  pub few : m ≤ 65536
+  pub few : m ≤ edgeRows
   pub registers-hold : m ≤ registers
   pub links-hold : edgeCells * m ≤ links
   pub ends-hold : edgeCells * m ≤ ends

@@ -3,14 +3,13 @@ use Prim.Native.Nat.{ℕ}
 use mathlib.Core.Bool.{not, _&&_}
 use mathlib.Core.List.{List, _++_}
 use lib.Dec.{ltb}
-use lib.ListN.{length}
-use Rattle.index.specs.declared.Refusal.the-variants.{Tables, Broken, Short}
+use Rattle.index.specs.declared.Refusal.the-variants.{Tables, Broken}
 use Rattle.tables.specs.Net.{Net, fits}
-use Rattle.tables.specs.Answers.{Out, out, done, refused, unless, give, onto}
+use Rattle.tables.specs.Answers.{Out, out, done, refused, unless, give}
 use Rattle.lists.specs.declared.Pick.the-variants.{Every, To, ToNot}
-use Rattle.lists.specs.declared.Item.the-variants.{Number, Near, Far, Weight}
+use Rattle.lists.specs.declared.Item.the-variants.{Far, Weight}
 use Rattle.lists.specs.Walk.{picks, broken, around}
-use Rattle.walks.specs.Legs.{Tables3, tables3, roomFor}
+use Rattle.walks.specs.Legs.{Tables3, giveThree}
 
 -- both lists are settled before the room for the items is tested; a missing node has no items
 abbrev pub walked : {S : Type 0} → Net → ℕ → S → Out ℕ S → Out ℕ S
@@ -37,8 +36,4 @@ edgesMut g a table = walked g a table (give (picks g 1 Every a ++ picks g 0 Ever
 
 -- number, source and target, the ends of incoming edges turned round
 unfoldable pub edges : Net → ℕ → Tables3 → Out ℕ Tables3
-edges g a t =
-    let count = length (around g Number a) in
-    walked g a t
-    (unless (roomFor count t) (out (refused Short 0) t)
-    (out (done count) (tables3 (onto (around g Number a) (t .numbers)) (onto (around g Near a) (t .sources)) (onto (around g Far a) (t .targets)))))
+edges g a t = walked g a t (giveThree (λ item. around g item a) t)
