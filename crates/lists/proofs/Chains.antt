@@ -3,18 +3,18 @@ use Prim.{Unit, tt}
 use Prim.Native.Nat.{ℕ, zero, suc, _≤_, _<_}
 use mathlib.Core.Path.{_≡_, refl, sym, ap, _∙_}
 use mathlib.Core.Logic.{_⊎_, inl, inr, ⊎-elim}
-use mathlib.Core.Bool.{false, cond}
+use mathlib.Core.Bool.{false}
 use mathlib.Core.List.{List, [], _∷_}
 use native.Mathlib.Nat.{not-suc-le-zero, le-of-suc-le-suc}
 use native.Mathlib.Decide.{ℕ-discrete}
 use native.Mathlib.Omega.{arith}
 use borrow.Author.Tests.{lt-ltb, le-ltb, eq-eqb, ne-eqb}
-use lib.Dec.{ltb, eqb}
+use lib.Dec.{ltb}
 use lib.ListN.{length}
 use Rattle.index.specs.Index.{END}
 use Rattle.lists.specs.declared.Spot.{Spot}
 use Rattle.lists.specs.declared.Spot.the-variants.{After}
-use Rattle.lists.specs.Chain.{Chain, In}
+use Rattle.lists.specs.Chain.{Chain, In, without}
 use Rattle.lists.specs.Walk.{walk, stop}
 
 module _ (lk : Spot → ℕ) (m : ℕ) (small : m ≤ END) where
@@ -55,11 +55,6 @@ Apart (x ∷ xs) = (In x xs → ⊥) × Apart xs
 pub chain-apart : (lk : Spot → ℕ) (m : ℕ) → m ≤ END → (s : Spot) (xs : List ℕ) → Chain lk m s xs → Apart xs
 chain-apart lk m small s [] c = tt
 chain-apart lk m small s (x ∷ xs) c = (fresh lk m small x xs (c .2), chain-apart lk m small (After x) xs (c .2))
-
--- the list without x, where it first stands
-abbrev pub without : ℕ → List ℕ → List ℕ
-without e [] = []
-without e (x ∷ xs) = cond (eqb x e) xs (x ∷ without e xs)
 
 pub in-without : (y e : ℕ) (xs : List ℕ) → In y (without e xs) → In y xs
 in-without y e [] i = i

@@ -2,7 +2,9 @@
 use Prim.Native.Nat.{ℕ, _<_}
 use mathlib.Core.Path.{_≡_}
 use mathlib.Core.Logic.{_⊎_}
+use mathlib.Core.Bool.{cond}
 use mathlib.Core.List.{List, [], _∷_}
+use lib.Dec.{eqb}
 use Rattle.index.specs.Index.{END}
 use Rattle.lists.specs.declared.Spot.{Spot}
 use Rattle.lists.specs.declared.Spot.the-variants.{After}
@@ -16,3 +18,8 @@ Chain lk m s (x ∷ xs) = (lk s ≡ x) × (x < m) × Chain lk m (After x) xs
 abbrev pub In : ℕ → List ℕ → Type 0
 In x [] = ⊥
 In x (y ∷ ys) = (x ≡ y) ⊎ In x ys
+
+-- the list without x, where it first stands; the others keep their order
+abbrev pub without : ℕ → List ℕ → List ℕ
+without x [] = []
+without x (y ∷ ys) = cond (eqb y x) ys (y ∷ without x ys)

@@ -31,19 +31,19 @@ use Rattle.sound.proofs.Same.{counts, members}
 use Rattle.sound.proofs.Exactly.{small, two}
 use Rattle.sound.proofs.Direction.{agreed, node-more, edge-more}
 
-fitOf : (g : Net) → fits g ≡ true
+pub fitOf : (g : Net) → fits g ≡ true
     → Fit (length (g .weights)) (length (g .heads)) (length (g .registers)) (length (g .links)) (length (g .ends)) (g .n) (g .m)
 fitOf g f = fit-says (length (g .weights)) (length (g .heads)) (length (g .registers)) (length (g .links)) (length (g .ends)) (g .n) (g .m) f
 
 -- two cells of a column set
 module _ (l : List ℕ) (i j x y : ℕ) (apart : i ≡ j → ⊥) where
-  first-cell : i < length l → getD (set (set l i x) j y) i 0 ≡ x
+  pub first-cell : i < length l → getD (set (set l i x) j y) i 0 ≡ x
   first-cell h = getD-set-other (set l i x) j i y 0 apart ∙ getD-set-same l i x 0 h
 
-  second-cell : j < length l → getD (set (set l i x) j y) j 0 ≡ y
+  pub second-cell : j < length l → getD (set (set l i x) j y) j 0 ≡ y
   second-cell h = getD-set-same (set l i x) j y 0 (rw (length-set l i x) h)
 
-  other-cell : (c : ℕ) → (c ≡ i → ⊥) → (c ≡ j → ⊥) → getD (set (set l i x) j y) c 0 ≡ getD l c 0
+  pub other-cell : (c : ℕ) → (c ≡ i → ⊥) → (c ≡ j → ⊥) → getD (set (set l i x) j y) c 0 ≡ getD l c 0
   other-cell c p q = getD-set-other (set l i x) j c y 0 q ∙ getD-set-other l i c x 0 p
 
 -- the rows in use of two networks with the same counts hold the same links and ends
@@ -251,7 +251,7 @@ clear-kept g ls S = kept-by g (clear g .after) ls (fits g) (λ f. (bareLists, al
 
 -- an update leaves every list as it was, or is an add
 module _ {A : Type 0} (P : Out A Net → Type 0) where
-  either : (b : Bool) (refusal served : Out A Net) → P refusal → (b ≡ true → P served) → P (unless b refusal served)
+  pub either : (b : Bool) (refusal served : Out A Net) → P refusal → (b ≡ true → P served) → P (unless b refusal served)
   either true refusal served p q = q refl
   either false refusal served p q = p
 

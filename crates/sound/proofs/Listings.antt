@@ -11,8 +11,8 @@ use lib.ListN.{length, length-append}
 use Rattle.index.specs.Index.{END}
 use Rattle.lists.specs.declared.Spot.{Spot}
 use Rattle.lists.specs.declared.Spot.the-variants.{Head}
-use Rattle.lists.specs.Chain.{Chain, In}
-use Rattle.lists.proofs.Chains.{below, Apart, chain-apart, without, few}
+use Rattle.lists.specs.Chain.{Chain, In, without}
+use Rattle.lists.proofs.Chains.{below, Apart, chain-apart, few}
 
 -- the rows listed, node after node, and how many they are
 abbrev pub all : ℕ → (ℕ → List ℕ) → List ℕ

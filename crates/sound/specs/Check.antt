@@ -1,6 +1,6 @@
 -- The check of a network: the rows that it reads, or direction and node of the first fault.
 use Prim.Native.Nat.{ℕ, zero, suc, _+_, _-_}
-use mathlib.Core.Bool.{cond, _&&_}
+use mathlib.Core.Bool.{Bool, true, false, cond, _&&_}
 use lib.Dec.{eqb, ltb}
 use Rattle.index.specs.declared.EdgeDirection.the-variants.{Outgoing, Incoming}
 use Rattle.index.specs.declared.Refusal.the-variants.{Tables, Broken}
@@ -55,6 +55,12 @@ verdict (Read q) (Read r) = Checked·.Accepted (q + r)
 -- outgoing lists, then incoming lists
 unfoldable pub checked : Net → Checked
 checked g = unless (fits g) (Checked·.Refused Tables) (verdict (way g 0) (way g 1))
+
+-- whether it accepts: exactly the sound networks
+abbrev pub accepted : Checked → Bool
+accepted (Checked·.Accepted rows) = true
+accepted (Checked·.Fault d a) = false
+accepted (Checked·.Refused why) = false
 
 -- rows read, direction and node: an accepted network tells the rows and two zeros, a fault a zero and its place, a refusal zeros
 abbrev pub toldChecked : Checked → Told (ℕ × ℕ × ℕ)

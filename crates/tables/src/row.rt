@@ -1,6 +1,6 @@
 // A row of the network, as it is read and written whole.
 ghost use mathlib.Core.Path.{_≡_};
-ghost use Rattle.tables.specs.Rows.{bare};
+ghost use Rattle.tables.specs.Rows.{bare, vacantEdge};
 use index::EdgeIndex;
 use index::NodeIndex;
 
@@ -29,6 +29,21 @@ impl Node {
             weight,
             outgoing: EdgeIndex::END,
             incoming: EdgeIndex::END,
+        }
+    }
+}
+
+impl Edge {
+    // What a row holds that no edge is in.
+    pub fn vacant() -> Edge
+        ensures { λ r. ⌜ r ≡ vacantEdge ⌝ }
+    {
+        Edge {
+            weight: 0,
+            outgoing: EdgeIndex::END,
+            incoming: EdgeIndex::END,
+            source: NodeIndex::END,
+            target: NodeIndex::END,
         }
     }
 }

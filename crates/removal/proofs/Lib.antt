@@ -1,0 +1,10 @@
+pub mod Seeks
+pub mod Reaches
+pub mod Ways
+pub mod Cases
+pub mod Members
+pub mod Spots
+pub mod Directions
+pub mod Stores
+pub mod Bounds
+pub mod EdgeOuts

@@ -1,0 +1,108 @@
+-- The ways in which the removal ends, in plain columns: what the code leaves is what the definition says. Assumes nothing.
+use Prim.Native.Nat.{ℕ, _+_, _-_, _<_}
+use mathlib.Core.Path.{_≡_, refl, sym, ap, _∙_}
+use mathlib.Core.Bool.{true}
+use mathlib.Core.List.{List, []}
+use native.Mathlib.Omega.{arith}
+use borrow.Author.Tests.{eq-eqb, ne-eqb, lt-ltb}
+use lib.IntN.{ℤ}
+use lib.ListN.{getD, set}
+use lib.Seq.{set-set, set-comm, set-getD}
+use Rattle.index.specs.declared.Refusal.the-variants.{Broken}
+use Rattle.index.specs.Index.{END}
+use Rattle.tables.specs.Net.{Net, net, fits, nodeCell, edgeCell}
+use Rattle.tables.specs.Rows.{edgeRow, vacantEdge, linksWith, endsWith, withEdge}
+use Rattle.tables.specs.Answers.{out, done, refused}
+use Rattle.lists.specs.declared.Spot.{Spot}
+use Rattle.lists.specs.declared.Spot.the-variants.{Head, After}
+use Rattle.lists.specs.Walk.{cell, linkIn}
+use Rattle.removal.specs.declared.Located.the-variants as Located·
+use Rattle.removal.specs.Links.{located, headsAt, linksAt, led}
+use Rattle.removal.specs.Removal.{Gone, bypassed, lastOut, lastInto, lastMoved, gone, takenOut, removeEdge}
+
+-- the two links of a network led elsewhere, column by column
+led-is : (W : List ℤ) (H H₂ R L L₂ E : List ℕ) (n m : ℕ) (s t : Spot) (v w : ℕ) → H₂ ≡ headsAt 1 t w (headsAt 0 s v H) → L₂ ≡ linksAt 1 t w (linksAt 0 s v L)
+    → net W H₂ R L₂ E n m ≡ led (net W H R L E n m) s t v w
+unfolding led
+led-is W H H₂ R L L₂ E n m s t v w p q = rw (p, q)
+
+-- the last row is sought in H, L, E
+module _ (W : List ℤ) (H R L E : List ℕ) (n m e : ℕ) (s t : Spot) (rows : ℕ) where
+  pub last-lost : (H₂ L₂ : List ℕ) → located H L E n m (m - 1) ≡ Located·.Lost → H₂ ≡ headsAt 1 t e (headsAt 0 s e H) → L₂ ≡ linksAt 1 t e (linksAt 0 s e L)
+      → out (refused Broken (0, 0, 0)) (net W H₂ R L₂ E n m) ≡ lastMoved (led (net W H R L E n m) s t e e) (net W H R L E n m) e (m - 1) rows
+  unfolding lastMoved
+  last-lost H₂ L₂ z p q = rw z (ap (out (refused Broken (0, 0, 0))) (led-is W H H₂ R L L₂ E n m s t e e p q))
+
+  pub last-moves : (u v : Spot) (more at : ℕ) (H₂ L₂ R₃ L₃ E₃ : List ℕ) → at ≡ e → located H L E n m (m - 1) ≡ Located·.At u v more
+      → H₂ ≡ headsAt 1 v e (headsAt 0 u e H) → L₂ ≡ linksAt 1 v e (linksAt 0 u e L)
+      → R₃ ≡ set (set R e (getD R (m - 1) 0)) (m - 1) 0
+      → L₃ ≡ linksWith (linksWith L₂ e (edgeRow (net [] [] [] L₂ [] 0 0) (m - 1))) (m - 1) vacantEdge
+      → E₃ ≡ endsWith (endsWith E e (edgeRow (net [] [] [] [] E 0 0) (m - 1))) (m - 1) vacantEdge
+      → out (done (getD R at 0, m - 1, rows + more)) (net W H₂ R₃ L₃ E₃ n (m - 1))
+      ≡ lastMoved (led (net W H R L E n m) s t e e) (net W H R L E n m) e (m - 1) rows
+  unfolding lastMoved lastInto lastOut withEdge led
+  last-moves u v more at H₂ L₂ R₃ L₃ E₃ i z p q r₁ r₂ r₃ = rw (i, z, r₁, r₂, r₃, p, q)
+
+-- what stood in a cell goes back there
+back : (l : List ℕ) (i v e : ℕ) → getD l i 0 ≡ e → set (set l i v) i e ≡ l
+back l i v e h = rw (← h) (set-set l i v (getD l i 0) ∙ set-getD l i 0)
+
+both-back : (l : List ℕ) (i j v w e : ℕ) → (i ≡ j → ⊥) → getD l i 0 ≡ e → getD l j 0 ≡ e → set (set (set (set l i v) j w) i e) j e ≡ l
+both-back l i j v w e d p q =
+    ap (λ x. set x j e) (set-comm (set l i v) j i w e (λ h. d (sym h)) ∙ ap (λ x. set x j w) (back l i v e p)) ∙ back l j w e q
+
+-- a bypassed edge is linked again
+module _ (H L : List ℕ) (v w e : ℕ) where
+  heads-back : (s t : Spot) → linkIn H L 0 s ≡ e → linkIn H L 1 t ≡ e → headsAt 1 t e (headsAt 0 s e (headsAt 1 t w (headsAt 0 s v H))) ≡ H
+  unfolding headsAt
+  heads-back (Head a) (Head b) p q = both-back H (nodeCell a 0) (nodeCell b 1) v w e (λ h. omega arith) p q
+  heads-back (Head a) (After y) p q = back H (nodeCell a 0) v e p
+  heads-back (After x) (Head b) p q = back H (nodeCell b 1) w e q
+  heads-back (After x) (After y) p q = refl
+
+  links-back : (s t : Spot) → linkIn H L 0 s ≡ e → linkIn H L 1 t ≡ e → linksAt 1 t e (linksAt 0 s e (linksAt 1 t w (linksAt 0 s v L))) ≡ L
+  unfolding linksAt
+  links-back (Head a) (Head b) p q = refl
+  links-back (Head a) (After y) p q = back L (edgeCell y 1) w e q
+  links-back (After x) (Head b) p q = back L (edgeCell x 0) v e p
+  links-back (After x) (After y) p q = both-back L (edgeCell x 0) (edgeCell y 1) v w e (λ h. omega arith) p q
+
+undone : (W : List ℤ) (H R L E : List ℕ) (n m e : ℕ) (s t : Spot) → linkIn H L 0 s ≡ e → linkIn H L 1 t ≡ e
+    → led (bypassed (net W H R L E n m) e s t) s t e e ≡ net W H R L E n m
+unfolding bypassed led
+undone W H R L E n m e s t p q = rw (heads-back H L (cell L 0 e) (cell L 1 e) e s t p q, links-back H L (cell L 0 e) (cell L 1 e) e s t p q)
+
+-- e is found at s and t, and bypassed: H₁ and L₁
+module _ (W : List ℤ) (H R L E : List ℕ) (n m e : ℕ) (s t : Spot) (rows : ℕ) (H₁ L₁ : List ℕ)
+    (p : H₁ ≡ headsAt 1 t (cell L 1 e) (headsAt 0 s (cell L 0 e) H)) (q : L₁ ≡ linksAt 1 t (cell L 1 e) (linksAt 0 s (cell L 0 e) L)) where
+  bypassed-is : net W H₁ R L₁ E n m ≡ bypassed (net W H R L E n m) e s t
+  unfolding bypassed
+  bypassed-is = led-is W H H₁ R L L₁ E n m s t (cell L 0 e) (cell L 1 e) p q
+
+  -- it is the last row
+  pub last-goes : (at : ℕ) (R₂ L₂ E₂ : List ℕ) → at ≡ e → e ≡ m - 1 → R₂ ≡ set R e 0 → L₂ ≡ linksWith L₁ e vacantEdge → E₂ ≡ endsWith E e vacantEdge
+      → out (done (getD R at 0, END, rows)) (net W H₁ R₂ L₂ E₂ n (m - 1)) ≡ gone (net W H R L E n m) e (m - 1) s t rows
+  unfolding gone lastOut withEdge
+  last-goes at R₂ L₂ E₂ i z r₁ r₂ r₃ = rw (i, eq-eqb e (m - 1) z, ← bypassed-is, r₁, r₂, r₃, z)
+
+  -- it is not: what filling the gap gives
+  pub gap-filled : (o : Gone) → (e ≡ m - 1 → ⊥) → linkIn H L 0 s ≡ e → linkIn H L 1 t ≡ e
+      → o ≡ lastMoved (led (net W H₁ R L₁ E n m) s t e e) (net W H₁ R L₁ E n m) e (m - 1) rows → o ≡ gone (net W H R L E n m) e (m - 1) s t rows
+  unfolding gone
+  gap-filled o d a b is = rw (ne-eqb e (m - 1) d) (is ∙ ap (λ h. lastMoved (led h s t e e) h e (m - 1) rows) bypassed-is ∙ ap (λ g. lastMoved g (bypassed (net W H R L E n m) e s t) e (m - 1) rows) (undone W H R L E n m e s t a b))
+
+-- the searches for e
+module _ (g : Net) (e : ℕ) where
+  pub not-found : located (g .heads) (g .links) (g .ends) (g .n) (g .m) e ≡ Located·.Lost → out (refused Broken (0, 0, 0)) g ≡ takenOut g e
+  unfolding takenOut
+  not-found z = rw z
+
+  pub is-found : (s t : Spot) (rows : ℕ) (o : Gone) → located (g .heads) (g .links) (g .ends) (g .n) (g .m) e ≡ Located·.At s t rows
+      → o ≡ gone g e (g .m - 1) s t rows → o ≡ takenOut g e
+  unfolding takenOut
+  is-found s t rows o z is = rw z is
+
+  -- past the guards the call is its part
+  pub past-guards : (o : Gone) → fits g ≡ true → e < g .m → o ≡ takenOut g e → o ≡ removeEdge g e
+  unfolding removeEdge
+  past-guards o f l is = rw (f, lt-ltb e (g .m) l) is

@@ -1,0 +1,4 @@
+pub mod Links
+pub mod Removal
+pub mod Lists
+pub mod Parts
