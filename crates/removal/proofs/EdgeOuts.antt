@@ -127,6 +127,7 @@ module _ (g : Net) (ls : ℕ → ℕ → List ℕ) (e : ℕ) (f : fits g ≡ tru
           nodes = R .nodes ∙ E .nodes ∙ cut-else .nodes;
           edges = R .edges;
           fit = R .fit;
+          totals = R .totals ∙ E .totals ∙ cut-else .totals;
           sound = counts i (lessEdge l e ls) (small i (R .fit)) left-lists;
           weights = λ x c. R .weights x c ∙ ap (λ column. getD column (renamed e l x) 0) (E .registers ∙ cut-else .registers);
           ends = λ k x b c. left-ends k x b c ∙ ap (λ column. cell column k (renamed e l x)) (cut-else .ends);

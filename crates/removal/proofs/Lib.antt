@@ -8,3 +8,4 @@ pub mod Directions
 pub mod Stores
 pub mod Bounds
 pub mod EdgeOuts
+pub mod Told

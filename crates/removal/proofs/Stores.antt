@@ -76,12 +76,13 @@ led-link g s v place =
 pub record Else (g h : Net) : Type 0 where
   pub nodes : h .n ≡ g .n
   pub edges : h .m ≡ g .m
+  pub totals : h .weights ≡ g .weights
   pub registers : h .registers ≡ g .registers
   pub ends : h .ends ≡ g .ends
   pub fit : fits h ≡ fits g
 
 pub nothing-else : (g : Net) → Else g g
-nothing-else g = record { nodes = refl; edges = refl; registers = refl; ends = refl; fit = refl }
+nothing-else g = record { nodes = refl; edges = refl; totals = refl; registers = refl; ends = refl; fit = refl }
 
 pub led-else : (g : Net) (s t : Spot) (v w : ℕ) → Else g (led g s t v w)
 unfolding led
@@ -89,6 +90,7 @@ led-else g s t v w =
     record {
       nodes = refl;
       edges = refl;
+      totals = refl;
       registers = refl;
       ends = refl;
       fit =
@@ -158,6 +160,7 @@ fewer-fit g l h f =
 pub record Remains (g h : Net) (e l : ℕ) : Type 0 where
   pub nodes : h .n ≡ g .n
   pub edges : h .m ≡ l
+  pub totals : h .weights ≡ g .weights
   pub fit : fits h ≡ true
   pub heads : (k a : ℕ) → linkAt h k (Head a) ≡ linkAt g k (Head a)
   pub rows : (k x : ℕ) → k < 2 → x < l → linkAt h k (After x) ≡ linkAt g k (After (renamed e l x))
@@ -170,6 +173,7 @@ module _ (g : Net) (e l : ℕ) (f : fits g ≡ true) (last : l < g .m) where
   last-out q =
       record {
         nodes = refl;
+        totals = refl;
         edges = q;
         fit = fewer-fit (withEdge g e vacantEdge) e (omega arith) (row-fits g e vacantEdge ∙ f);
         heads = λ k a. refl;
@@ -185,6 +189,7 @@ module _ (g : Net) (e l : ℕ) (f : fits g ≡ true) (last : l < g .m) where
       let h = withEdge g e (edgeRow g l) in
       record {
         nodes = refl;
+        totals = refl;
         edges = refl;
         fit = fewer-fit (withEdge h l vacantEdge) l (omega arith) (row-fits h l vacantEdge ∙ row-fits g e (edgeRow g l) ∙ f);
         heads = λ k a. refl;

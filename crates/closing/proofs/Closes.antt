@@ -1,0 +1,107 @@
+-- The ways in which a node's removal ends, in plain columns: what the code leaves is what the definition says. Assumes nothing.
+use Prim.Native.Nat.{ℕ, _+_, _-_, _≤_, _<_}
+use mathlib.Core.Path.{_≡_, refl, sym, ap, ap₂, _∙_}
+use mathlib.Core.Bool.{true, false}
+use mathlib.Core.List.{List, [], map}
+use native.Mathlib.Omega.{arith}
+use borrow.Author.Tests.{lt-ltb, le-leb, lt-leb}
+use lib.IntN.{ℤ, pos}
+use lib.ListN.{length, getD, set, length-append, length-map}
+use Rattle.index.specs.declared.Refusal.the-variants.{Broken, Short}
+use Rattle.tables.specs.Net.{Net, net, fits, nodeCell}
+use Rattle.tables.specs.Rows.{nodeRow, vacantNode, headsWith, withNode}
+use Rattle.tables.specs.Answers.{out, done, refused, onto}
+use Rattle.tables.proofs.Laws.{Fit}
+use Rattle.lists.specs.declared.Spot.the-variants.{Head}
+use Rattle.lists.specs.declared.Item.the-variants.{Weight}
+use Rattle.lists.specs.declared.Pick.the-variants.{Every, NotTo}
+use Rattle.lists.specs.Walk.{linkAt, rowsFrom, picks, gives, around}
+use Rattle.lists.proofs.Chains.{chain-ends}
+use Rattle.walks.specs.declared.parts.Settled.{Settled}
+use Rattle.walks.specs.declared.parts.Settled.the-variants.{Rows}
+use Rattle.walks.specs.declared.parts.Settled.the-variants as Settled·
+use Rattle.walks.specs.Legs.{legAt, settled}
+use Rattle.sound.specs.declared.Checked.the-variants as Checked·
+use Rattle.sound.specs.Sound.{lists}
+use Rattle.sound.specs.Check.{checked, accepted}
+use Rattle.sound.proofs.Exactly.{small, accepted-sound}
+use Rattle.sound.proofs.Kept.{fitOf}
+use Rattle.closing.specs.Closing.{Closed, strip, stripped, ended, dropped, closed, closedIfRoom, removeNode}
+use Rattle.closing.specs.Parts.{Closable}
+use Rattle.closing.proofs.Stripping.{given-are}
+
+-- the columns hold what the counts say
+pub fit-of : {W : List ℤ} {H R L E : List ℕ} {n m a : ℕ} → Closable (net W H R L E n m) a → Fit (length W) (length H) (length R) (length L) (length E) n m
+fit-of {W} {H} {R} {L} {E} {n} {m} C = fitOf (net W H R L E n m) (C .fit)
+
+-- stripped, then dropped
+pub node-taken : (g : Net) (a : ℕ) (I H₁ R₁ L₁ E₁ : List ℕ) (m₁ : ℕ) (given : List ℕ) (rows count at : ℕ) (I₁ : List ℕ) (W₂ : List ℤ) (H₂ E₂ : List ℕ) (n₂ more : ℕ)
+    → at ≡ a → strip (net (g .weights) H₁ R₁ L₁ E₁ (g .n) m₁) given rows ≡ stripped g a → count ≡ length given → I₁ ≡ onto given I
+    → W₂ ≡ set (set (g .weights) a (getD (g .weights) (g .n - 1) (pos 0))) (g .n - 1) (pos 0)
+    → H₂ ≡ headsWith (headsWith H₁ a (nodeRow (net [] H₁ [] [] [] 0 0) (g .n - 1))) (g .n - 1) vacantNode
+    → E₂ ≡ ended 1 a (rowsFrom L₁ m₁ 1 (getD H₁ (nodeCell (g .n - 1) 1) 0)) (ended 0 a (rowsFrom L₁ m₁ 0 (getD H₁ (nodeCell (g .n - 1) 0) 0)) E₁)
+    → n₂ ≡ g .n - 1
+    → more ≡ length (rowsFrom L₁ m₁ 0 (getD H₁ (nodeCell (g .n - 1) 0) 0)) + length (rowsFrom L₁ m₁ 1 (getD H₁ (nodeCell (g .n - 1) 1) 0))
+    → out (done (getD (g .weights) at (pos 0), rows + more, count)) (net W₂ H₂ R₁ L₁ E₂ n₂ m₁, I₁) ≡ closed g a I (stripped g a)
+unfolding dropped withNode
+node-taken g a I H₁ R₁ L₁ E₁ m₁ given rows count at I₁ W₂ H₂ E₂ n₂ more i s c j p q r z t = rw (i, ← s, c, j, p, q, r, z, t)
+
+-- the two lists of a node of a sound network are counted
+module _ (g : Net) (a : ℕ) (C : Closable g a) where
+  abbrev both : Settled
+  both = settled (g .links) (g .ends) (g .m) (legAt (g .heads) 0 Every a) (legAt (g .heads) 1 (NotTo (record { 0 = a })) a)
+
+  edges-around : length (around g Weight a) ≡ length (picks g 0 Every a) + length (picks g 1 (NotTo (record { 0 = a })) a)
+  edges-around =
+      length-append (map (gives g Weight 0) (picks g 0 Every a)) (map (gives g Weight 1) (picks g 1 (NotTo (record { 0 = a })) a))
+      ∙ ap₂ (λ x y. x + y) (length-map (picks g 0 Every a) (gives g Weight 0)) (length-map (picks g 1 (NotTo (record { 0 = a })) a) (gives g Weight 1))
+
+  both-are : both
+      ≡ Rows (length (rowsFrom (g .links) (g .m) 0 (linkAt g 0 (Head a)))) (length (picks g 0 Every a)) (length (rowsFrom (g .links) (g .m) 1 (linkAt g 1 (Head a))))
+      (length (around g Weight a))
+  both-are =
+      let s = small g (C .fit) in
+      let e = C .sound .all-end in
+      rw (
+        chain-ends (linkAt g 0) (g .m) s (Head a) (C .lists 0 a) (e 0 a (omega arith) (C .node)),
+        chain-ends (linkAt g 1) (g .m) s (Head a) (C .lists 1 a) (e 1 a (omega arith) (C .node)),
+        edges-around,
+      )
+
+  pub not-broken : (v : Settled) → v ≡ both → v ≡ Settled·.Broken → ⊥
+  not-broken v p q =
+      let z = sym q ∙ p ∙ both-are in
+      let t : _≡_ {A = ℕ} 0 1 = cc in
+      omega arith
+
+  pub count-is : (v : Settled) (q r s count : ℕ) → v ≡ both → v ≡ Rows q r s count → count ≡ length (around g Weight a)
+  count-is v q r s count p z =
+      let t = sym z ∙ p ∙ both-are in
+      cc
+
+  pub enough : (count items : ℕ) → count ≡ length (around g Weight a) → count ≤ items → length (stripped g a .given) ≤ items
+  enough count items c l = omega (arith, c, ap length (given-are g (C .lists) a (C .fit) (C .sound) (C .node)))
+
+  pub too-short : (I : List ℕ) (count : ℕ) → count ≡ length (around g Weight a) → length I < count → out (refused Short (pos 0, 0, 0)) (g, I) ≡ closedIfRoom g a I
+  unfolding closedIfRoom
+  too-short I count c l = rw (lt-leb (length (around g Weight a)) (length I) (omega (arith, c)))
+
+  pub long-enough : (I : List ℕ) (count : ℕ) (o : Closed) → count ≡ length (around g Weight a) → count ≤ length I → o ≡ closed g a I (stripped g a) → o ≡ closedIfRoom g a I
+  unfolding closedIfRoom
+  long-enough I count o c l is = rw (le-leb (length (around g Weight a)) (length I) (omega (arith, c))) is
+
+-- an accepted network is sound
+pub closable-so : (g : Net) (a rows : ℕ) → checked g ≡ Checked·.Accepted rows → a < g .n → Closable g a
+closable-so g a rows c l =
+    let S = accepted-sound g rows c in
+    record { fit = S .0; lists = lists g; sound = S .1; node = l }
+
+-- past the guards
+module _ (g : Net) (a : ℕ) (I : List ℕ) (f : fits g ≡ true) (l : a < g .n) where
+  pub not-sound : accepted (checked g) ≡ false → out (refused Broken (pos 0, 0, 0)) (g, I) ≡ removeNode g a I
+  unfolding removeNode
+  not-sound z = rw (f, lt-ltb a (g .n) l, z)
+
+  pub is-sound : accepted (checked g) ≡ true → (o : Closed) → o ≡ closedIfRoom g a I → o ≡ removeNode g a I
+  unfolding removeNode
+  is-sound z o is = rw (f, lt-ltb a (g .n) l, z) is
