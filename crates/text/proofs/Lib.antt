@@ -1,0 +1,9 @@
+pub mod Spelling
+pub mod Putting
+pub mod Signs
+pub mod Runs
+pub mod Fields
+pub mod Cutting
+pub mod Scanning
+pub mod Values
+pub mod Cases

@@ -1,0 +1,59 @@
+-- `parts::fields_width` meets its contract: the bytes counted and those of the fields left are those of all. Assumes nothing.
+use Prim.Native.Nat.{ℕ, _+_, _*_, _-_, _^_, _≤_, _<_}
+use mathlib.Core.Path.{_≡_, ap}
+use native.Mathlib.Omega.{arith}
+use lib.ListN.{length, drop}
+use borrow.Author.Needs.{needs}
+use Rattle.text.specs.Digits.{digits, fieldsText}
+use Rattle.text.proofs.Spelling.{digits-few, fields-width-step, fields-end}
+use Rattle.text.proofs.parts.fields_width.Statement.{statement}
+use Rattle.text.proofs.parts.fields_width.Tie as tie
+
+abbrev Inv-loop : tie.InvT-loop
+Inv-loop fields wide₀ i₀ wide i =
+    (i ≤ length fields) × (wide ≤ 11 * i) × (wide + length (fieldsText (drop i fields)) ≡ length (fieldsText fields))
+
+abbrev μ-loop : tie.MeasureT-loop
+μ-loop fields wide₀ i₀ wide i = length fields - i
+
+cast-width : tie.Need-cast-width Inv-loop μ-loop
+cast-width c = omega (arith, c .shared-slice-known2 .given (c .before .before .loop .i))
+
+few : {x w : ℕ} → x < 2 ^ 32 → w ≡ length (digits x) → w ≤ 10
+few {x} {w} h e = omega (arith, digits-few 9 x (omega arith))
+
+add-wide : tie.Need-add-wide Inv-loop μ-loop
+add-wide c = let w = few (c .before .shared-slice-known2 .given _ .fits) (c .width .ensures .is) in record { fits = omega arith }
+
+add-wide-2 : tie.Need-add-wide-2 Inv-loop μ-loop
+add-wide-2 c = let w = few (c .before .shared-slice-known2 .given _ .fits) (c .width .ensures .is) in record { fits = omega arith }
+
+loop-again : tie.Need-loop-again Inv-loop μ-loop
+loop-again c =
+    let w = few (c .before .shared-slice-known2 .given _ .fits) (c .width .ensures .is) in
+    let n = fields-width-step (c .before .before .before .before .before .args .fields .now) (c .before .before .before .loop .i) (c .before .before .loop-test .taken) in
+    (omega arith, omega arith, omega (arith, c .width .ensures .is, c .before .before .before .loop .inv .2))
+
+returns : tie.Need-returns Inv-loop μ-loop
+returns c =
+    let l = c .before .loop in
+    let e = ap length (fields-end (c .before .before .before .args .fields .now) (l .i) (omega arith)) in
+    record { is = omega (arith, l .inv .2); few = omega arith }
+
+pub fields-width-spec : {M : Type 1} → statement M
+fields-width-spec =
+    tie.close
+    (tie.spec
+    Inv-loop
+    μ-loop
+    (λ c. search needs)
+    (λ c. search needs)
+    (λ c. search needs)
+    cast-width
+    (λ c κs. search needs)
+    add-wide
+    add-wide-2
+    (λ c. search needs)
+    (λ c. search needs)
+    loop-again
+    returns)

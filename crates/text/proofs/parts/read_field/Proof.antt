@@ -1,0 +1,24 @@
+-- `parts::read_field` meets its contract: the text, by its first byte. Assumes nothing.
+use borrow.Author.Needs.{needs}
+use borrow.Author.Tests.{eq-eqb, ne-eqb}
+use Rattle.text.specs.Parts.{readField}
+use Rattle.text.proofs.Fields.{nothing-there, first-there}
+use Rattle.text.proofs.parts.read_field.Statement.{statement}
+use Rattle.text.proofs.parts.read_field.Tie as tie
+
+returns : tie.Need-returns
+unfolding readField
+returns c = rw (nothing-there (c .before .before .pre) (c .if1 .taken))
+
+returns-2 : tie.Need-returns-2
+unfolding readField
+returns-2 c = rw (first-there (c .before .before .before .before .pre) (c .before .before .if1 .left), ne-eqb _ 32 (c .if2 .taken))
+
+returns-3 : tie.Need-returns-3
+unfolding readField
+returns-3 c = rw (first-there (c .before .before .before .before .before .pre) (c .before .before .before .if1 .left), eq-eqb _ 32 (c .before .if2 .left)) (c .read-number .ensures)
+
+pub read-field-spec : {M : Type 1} → statement M
+read-field-spec =
+    tie.close
+    (tie.spec returns (λ c. search needs) returns-2 (λ c. search needs) (λ c κs. search needs) returns-3)

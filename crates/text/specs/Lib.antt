@@ -1,0 +1,5 @@
+pub mod Bytes
+pub mod Digits
+pub mod Numbers
+pub mod Lines
+pub mod Parts
