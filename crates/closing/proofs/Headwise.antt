@@ -14,7 +14,7 @@ use Rattle.index.specs.declared.Refusal.{Refusal}
 use Rattle.index.specs.declared.EdgeDirection.the-variants.{Outgoing, Incoming}
 use Rattle.index.specs.Index.{END, isEnd, numberOf}
 use Rattle.index.specs.Refusals.{refusalNo}
-use Rattle.index.proofs.Laws.{untold-refusal}
+use Rattle.index.proofs.Laws.{not-zero}
 use Rattle.tables.specs.Net.{Net, net, fits, nodeCell}
 use Rattle.tables.specs.Answers.{out, done}
 use Rattle.lists.specs.declared.Spot.the-variants.{Head}
@@ -67,11 +67,6 @@ store-next : (ws l : List ℕ) (c w : ℕ) → length ws ≡ c → c < length (w
 store-next ws l c w q h =
     let d = drop-behind c l (room-behind c l (omega (arith, length-append ws (drop c l)))) in
     rw (add-one c) (ap (λ i. set (ws ++ drop c l) i w) (sym q) ∙ store-behind ws (drop c l) w (d .0) ∙ ap (λ r. (ws ++ (w ∷ [])) ++ r) (d .1))
-
-not-zero : (why : Refusal) → refusalNo why ≡ 0 → ⊥
-not-zero why h =
-    let z : _≡_ {A = ℕ} 0 1 = rw h at (untold-refusal {A = ℕ} 0 (λ w. 1) why) in
-    omega arith
 
 -- with some node weights the columns are a sound network
 pub record Alive (n : ℕ) (H R L E : List ℕ) (m : ℕ) : Type 0 where

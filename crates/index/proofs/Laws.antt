@@ -37,3 +37,8 @@ untold-refusal served refused Short = refl
 untold-refusal served refused NotImage = refl
 untold-refusal served refused Version = refl
 untold-refusal served refused NotCommand = refl
+
+pub not-zero : (why : Refusal) → refusalNo why ≡ 0 → ⊥
+not-zero why h =
+    let z : _≡_ {A = ℕ} 0 1 = rw h at (untold-refusal {A = ℕ} 0 (λ w. 1) why) in
+    omega arith

@@ -7,11 +7,9 @@ use mathlib.Core.List.{List}
 use native.Mathlib.Omega.{arith}
 use lib.ListN.{length}
 use Rattle.index.specs.declared.EdgeDirection.the-variants.{Outgoing, Incoming}
-use Rattle.index.specs.declared.Refusal.{Refusal}
 use Rattle.index.specs.declared.Refusal.the-variants.{Tables}
 use Rattle.index.specs.Index.{END}
-use Rattle.index.specs.Refusals.{refusalNo}
-use Rattle.index.proofs.Laws.{untold-refusal}
+use Rattle.index.proofs.Laws.{not-zero}
 use Rattle.tables.specs.Net.{Net, fits}
 use Rattle.tables.specs.Answers.{done, unless}
 use Rattle.tables.proofs.Laws.{fit-says}
@@ -85,11 +83,6 @@ accepted-sound g rows h =
     let i = way-met (linkAt g 1) (endAt g 1) (g .m) s (g .n) (a .1 .1) (a .1 .3) in
     let L : Listed g (lists g) = two (λ k. Lists (g .n) (g .m) (linkAt g k) (endAt g k) (lists g k)) (o .0) (i .0) in
     (a .0, counts g (lists g) s L, omega (arith, o .1, i .1, a .1 .4))
-
-not-zero : (why : Refusal) → refusalNo why ≡ 0 → ⊥
-not-zero why h =
-    let z : _≡_ {A = ℕ} 0 1 = rw h at (untold-refusal {A = ℕ} 0 (λ w. 1) why) in
-    omega arith
 
 zero-accepts : (r : Checked) → toldChecked r .number ≡ 0 → (rows : ℕ) × (r ≡ Checked·.Accepted rows)
 zero-accepts (Checked·.Accepted rows) h = (rows, refl)

@@ -16,7 +16,7 @@ use Rattle.index.specs.Index.{END}
 use Rattle.tables.specs.Net.{Net, net, fits, withNodes, withEdges, withCounts, nodeCells, nodeCell, edgeCell}
 use Rattle.tables.specs.Answers.{Out, unless}
 use Rattle.tables.specs.Rows.{bare, headsWith, linksWith, endsWith, withNode, withEdge, newEdge, headed, vacantNodes, vacantEdges}
-use Rattle.tables.proofs.Laws.{Fit, fit-says}
+use Rattle.tables.proofs.Laws.{both, Fit, fit-says}
 use Rattle.tables.proofs.Vacant.{filled-at}
 use Rattle.rows.specs.Calls.{setNodeWeight, setEdgeWeight, addNode, linked, addEdge, clear, clearEdges}
 use Rattle.lists.specs.declared.Spot.{Spot}
@@ -220,11 +220,6 @@ node-kept g ls w S =
     left HasLists (fits g) _ _ (ls, S) (λ f.
     left HasLists (ltb (g .n) (length (g .weights))) _ _ (ls, S) (λ l.
     (nodeMore (g .n) ls, noded-sound g ls w f (ltb-true (g .n) (length (g .weights)) l) S)))
-
-both : (x y : Bool) → (x && y) ≡ true → (x ≡ true) × (y ≡ true)
-both true y h = (refl, h)
-both false true h = (h, refl)
-both false false h = (h, h)
 
 pub edge-kept : (g : Net) (ls : ℕ → ℕ → List ℕ) (a b w : ℕ) → Sound g ls → HasLists (addEdge g a b w .after)
 unfolding addEdge linked withEdge

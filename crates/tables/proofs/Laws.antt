@@ -15,6 +15,9 @@ and-r true b h = h
 and-r false true h = refl
 and-r false false h = h
 
+pub both : (a b : Bool) → (a && b) ≡ true → (a ≡ true) × (b ≡ true)
+both a b h = (and-l a b h, and-r a b h)
+
 pub record Fit (weights heads registers links ends n m : ℕ) : Type 0 where
   pub nodes-most : weights ≤ nodeRows
   pub edges-most : registers ≤ edgeRows

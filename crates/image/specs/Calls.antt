@@ -1,0 +1,52 @@
+-- What each call answers, and what it leaves.
+use Prim.{Unit, tt}
+use Prim.Native.Nat.{ℕ}
+use mathlib.Core.Bool.{Bool, _&&_}
+use mathlib.Core.List.{List}
+use lib.Dec.{leb, eqb}
+use lib.ListN.{length}
+use Rattle.index.specs.declared.Refusal.the-variants.{Tables, Full, Broken, NotImage, Version}
+use Rattle.tables.specs.Net.{Net, fits, withCounts}
+use Rattle.tables.specs.Answers.{Out, out, done, refused, unless, give}
+use Rattle.tables.specs.Rows.{vacantNodes, vacantEdges}
+use Rattle.sound.specs.Check.{checked, accepted}
+use Rattle.layout.specs.Layout.{version, headBytes, imageLength, marked, versionIn, nodesIn, edgesIn}
+use Rattle.imagerows.specs.Image.{imageOf, loaded}
+
+-- the check accepts exactly the sound networks
+unfoldable pub isSound : Net → Bool
+isSound g = accepted (checked g)
+
+-- the image into an output table: 1, 6, 7
+unfoldable pub imageWrite : Net → List ℕ → Out ℕ (List ℕ)
+imageWrite g bytes =
+    unless (fits g) (out (refused Tables 0) bytes)
+    (unless (isSound g) (out (refused Broken 0) bytes)
+    (give (imageOf g) bytes))
+
+-- no row is in use, and all rows lent are vacant
+unfoldable pub emptied : Net → Net
+emptied g = withCounts (vacantEdges (vacantNodes g 0 (length (g .weights))) 0 (length (g .registers))) 0 0
+
+-- a network that was loaded stays if it is sound; else 6, and nothing is left of it
+unfoldable pub settled : Net → Out Unit Net
+settled g =
+    unless (isSound g) (out (refused Broken tt) (emptied g))
+    (out (done tt) g)
+
+-- a version 1 image: 2 for its counts, 8 for its length, 6
+unfoldable pub readOne : Net → List ℕ → Out Unit Net
+readOne g bytes =
+    let n = nodesIn bytes in
+    let m = edgesIn bytes in
+    unless (leb n (length (g .weights)) && leb m (length (g .registers))) (out (refused Full tt) g)
+    (unless (eqb (length bytes) (imageLength n m)) (out (refused NotImage tt) g)
+    (settled (loaded g bytes n m)))
+
+-- any bytes: 1, 8, 9, then by the version
+unfoldable pub imageRead : Net → List ℕ → Out Unit Net
+imageRead g bytes =
+    unless (fits g) (out (refused Tables tt) g)
+    (unless (leb headBytes (length bytes) && marked bytes) (out (refused NotImage tt) g)
+    (unless (eqb (versionIn bytes) version) (out (refused Version tt) g)
+    (readOne g bytes)))

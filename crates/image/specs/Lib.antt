@@ -1,0 +1,3 @@
+pub mod Calls
+pub mod RoundTrip
+pub mod Parts

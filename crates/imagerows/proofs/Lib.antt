@@ -1,0 +1,4 @@
+pub mod Turns
+pub mod Served
+pub mod Spans
+pub mod Loads
