@@ -1,0 +1,23 @@
+-- `clear_line` meets its contract: what the call answers is replied. Assumes nothing.
+use borrow.Author.Needs.{needs}
+use Rattle.commands.specs.Commands.{nothing, clearLine}
+use Rattle.commands.proofs.Laws.{replies-so}
+use Rattle.commands.proofs.clear_line.Statement.{statement}
+use Rattle.commands.proofs.clear_line.Tie as tie
+
+returns : tie.Need-returns
+unfolding clearLine
+returns c = replies-so 90 nothing (c .changed-reply .ensures) (c .before .before .before .before .before .before .before .before .before .before .clear .ensures)
+
+pub clear-line-spec : {M : Type 1} → statement M
+clear-line-spec =
+    tie.close
+    (tie.spec
+    (λ c κs. search needs)
+    (λ c κs. search needs)
+    (λ c. search needs)
+    (λ c. search needs)
+    (λ c. search needs)
+    (λ c. search needs)
+    (λ c. search needs)
+    returns)

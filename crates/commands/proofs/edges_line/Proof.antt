@@ -1,0 +1,15 @@
+-- `edges_line` meets its contract: what the call answers is replied. Assumes nothing.
+use borrow.Author.Needs.{needs}
+use Rattle.commands.specs.Commands.{counted, edgesLine}
+use Rattle.commands.proofs.Laws.{replies-so}
+use Rattle.commands.proofs.edges_line.Statement.{statement}
+use Rattle.commands.proofs.edges_line.Tie as tie
+
+returns : tie.Need-returns
+unfolding edgesLine
+returns c = replies-so 71 counted (c .items-reply .ensures) (c .before .before .before .before .before .before .before .edges .ensures)
+
+pub edges-line-spec : {M : Type 1} → statement M
+edges-line-spec =
+    tie.close
+    (tie.spec (λ c κs. search needs) (λ c κs. search needs) (λ c. search needs) (λ c. search needs) (λ c. search needs) returns)
