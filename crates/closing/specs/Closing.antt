@@ -67,6 +67,7 @@ abbrev pub toldNodeRemoved : NodeRemoved → Told (ℤ × ℕ × ℕ)
 toldNodeRemoved (NodeRemoved·.Node w rows count) = done (w, rows, count)
 toldNodeRemoved (NodeRemoved·.Refused why) = refused why (pos 0, 0, 0)
 
+-- node a stripped, then dropped; the weights of its edges stand at the front of the table
 abbrev pub closed : Net → ℕ → List ℕ → Strip → Closed
 closed g a items t =
     out (done (getD (g .weights) a (pos 0), t .rows + rowsMoved (t .rest), length (t .given))) (dropped (t .rest) a, onto (t .given) items)
@@ -77,6 +78,7 @@ closedIfRoom g a items =
     unless (leb (length (around g Weight a)) (length items)) (out (refused Short (pos 0, 0, 0)) (g, items))
     (closed g a items (stripped g a))
 
+-- taking node a out: 1, 3, 6 exactly where the network is not sound, 7
 unfoldable pub removeNode : Net → ℕ → List ℕ → Closed
 removeNode g a items =
     unless (fits g) (out (refused Tables (pos 0, 0, 0)) (g, items))

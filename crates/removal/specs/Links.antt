@@ -25,6 +25,7 @@ seek lk m e (suc left) s rows =
 unfoldable pub searched : (Spot → ℕ) → (ℕ → ℕ) → (n m e : ℕ) → Search
 searched lk node n m e = cond (ltb (node e) n) (seek lk m e m (Head (node e)) 0) Search·.Lost
 
+-- both searches succeed, and their rows add up; or the edge is lost
 abbrev pub join : Search → Search → Located
 join (Search·.At s q) (Search·.At t r) = Located·.At s t (q + r)
 join (Search·.At s q) Search·.Lost = Located·.Lost

@@ -55,5 +55,5 @@ pub record EdgeOut (g : Net) (ls : ℕ → ℕ → List ℕ) (e : ℕ) (o : Gone
   pub sound : Sound (o .after) (lessEdge (g .m - 1) e ls)
   -- the node weights stay; every edge left keeps its weight and its ends, and row e has those of the row that moved
   pub totals : o .after .weights ≡ g .weights
-  pub weights : (x : ℕ) → x < g .m - 1 → getD (o .after .registers) x 0 ≡ getD (g .registers) (cond (eqb x e) (g .m - 1) x) 0
-  pub ends : (k x : ℕ) → k < 2 → x < g .m - 1 → endAt (o .after) k x ≡ endAt g k (cond (eqb x e) (g .m - 1) x)
+  pub weights : (x : ℕ) → x < g .m - 1 → getD (o .after .registers) x 0 ≡ getD (g .registers) (renamed e (g .m - 1) x) 0
+  pub ends : (k x : ℕ) → k < 2 → x < g .m - 1 → endAt (o .after) k x ≡ endAt g k (renamed e (g .m - 1) x)

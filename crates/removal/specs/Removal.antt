@@ -62,6 +62,7 @@ gone g e l s t rows =
 unfoldable pub takenOut : Net → ℕ → Gone
 takenOut g e = onPlace (placeOf g e) (λ s t rows. gone g e (g .m - 1) s t rows) (out (refused Broken (0, 0, 0)) g)
 
+-- taking edge e out: 1, 4, 6
 unfoldable pub removeEdge : Net → ℕ → Gone
 removeEdge g e =
     unless (fits g) (out (refused Tables (0, 0, 0)) g)
