@@ -97,7 +97,7 @@ pub fn first_edge(g: Net, a: u32, k: u32) {
     let links = g.links;
     let ends = g.ends;
     let lent = lend(&weights, g.rows);
-    let answer = rows::first_edge(
+    let answer = lookups::first_edge(
         &weights[..lent],
         &heads,
         &registers,
@@ -120,7 +120,7 @@ pub fn next_edge(g: Net, e: u32, k: u32) {
     let links = g.links;
     let ends = g.ends;
     let lent = lend(&weights, g.rows);
-    let answer = rows::next_edge(
+    let answer = lookups::next_edge(
         &weights[..lent],
         &heads,
         &registers,

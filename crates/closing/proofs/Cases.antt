@@ -14,8 +14,11 @@ use Rattle.sound.specs.Sound.{lists}
 use Rattle.sound.specs.Check.{walked, upTo, oneWay, checked}
 use Rattle.removal.specs.Links.{seek, searched, located, headsAt, linksAt, led}
 use Rattle.removal.specs.Removal.{bypassed, lastOut, lastInto, lastMoved, gone, takenOut}
-use Rattle.closing.specs.Closing.{emptied, stripped, dropped, closedIfRoom, removeNode}
-use Rattle.closing.specs.Lists.{listing, headsOut, headsRead, nodeRead}
+use Rattle.stripping.specs.Heads.{emptied, stripped}
+use Rattle.dropping.specs.Drop.{dropped}
+use Rattle.closing.specs.Closing.{closedIfRoom, removeNode}
+use Rattle.stripping.specs.Lists.{listing, headsOut, headsRead}
+use Rattle.closing.specs.Lists.{nodeRead}
 
 -- D 0: weight 5, 2 rows, weights 12 10; node 2 becomes 0
 pub d-0 : removeNode networkA 0 (7 ∷ 7 ∷ 7 ∷ [])

@@ -26,9 +26,11 @@ use Rattle.sound.specs.Sound.{lists}
 use Rattle.sound.specs.Check.{checked, accepted}
 use Rattle.sound.proofs.Exactly.{small, accepted-sound}
 use Rattle.sound.proofs.Kept.{fitOf}
-use Rattle.closing.specs.Closing.{Closed, strip, stripped, ended, dropped, closed, closedIfRoom, removeNode}
+use Rattle.stripping.specs.Heads.{strip, stripped}
+use Rattle.dropping.specs.Drop.{ended, dropped}
+use Rattle.closing.specs.Closing.{Closed, closed, closedIfRoom, removeNode}
 use Rattle.closing.specs.Parts.{Closable}
-use Rattle.closing.proofs.Stripping.{given-are}
+use Rattle.stripping.proofs.Stripping.{given-are}
 
 -- the columns hold what the counts say
 pub fit-of : {W : List ℤ} {H R L E : List ℕ} {n m a : ℕ} → Closable (net W H R L E n m) a → Fit (length W) (length H) (length R) (length L) (length E) n m

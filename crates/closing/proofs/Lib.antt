@@ -1,13 +1,4 @@
-pub mod Others
-pub mod Turns
-pub mod Follow
-pub mod Emptying
-pub mod Stripping
-pub mod Ends
-pub mod Headwise
-pub mod Phases
 pub mod Closes
-pub mod Dropping
 pub mod NodeOuts
 pub mod Cases
 pub mod Told

@@ -23,11 +23,15 @@ use Rattle.sound.specs.Check.{checked, accepted}
 use Rattle.sound.proofs.Exactly.{sound-accepted, accepted-sound}
 use Rattle.sound.proofs.Kept.{HasLists}
 use Rattle.removal.specs.Lists.{renamed, Longest}
-use Rattle.closing.specs.Closing.{stripped, dropped, rowsMoved, Closed, closed, closedIfRoom, removeNode}
-use Rattle.closing.specs.Lists.{listing, nodeMoved, lessNode, nodeRead, Stays, NodeOut}
-use Rattle.closing.proofs.Stripping.{lessBoth, given-are, strip-fits, strip-sound, strip-nodes, strip-totals, strip-edges, bare-lists}
-use Rattle.closing.proofs.Stripping.{strip-rows, longest-left, strip-most, newNumber, strip-follows}
-use Rattle.closing.proofs.Dropping.{drop-nodes, drop-edges, drop-registers, drop-totals, drop-fits, drop-ends, drop-sound, drop-read}
+use Rattle.stripping.specs.Heads.{stripped}
+use Rattle.dropping.specs.Drop.{dropped, rowsMoved}
+use Rattle.closing.specs.Closing.{Closed, closed, closedIfRoom, removeNode}
+use Rattle.stripping.specs.Lists.{listing}
+use Rattle.dropping.specs.Drop.{nodeMoved}
+use Rattle.closing.specs.Lists.{lessNode, nodeRead, Stays, NodeOut}
+use Rattle.stripping.proofs.Stripping.{lessBoth, given-are, strip-fits, strip-sound, strip-nodes, strip-totals, strip-edges, bare-lists}
+use Rattle.stripping.proofs.Stripping.{strip-rows, longest-left, strip-most, newNumber, strip-follows}
+use Rattle.dropping.proofs.Dropping.{drop-nodes, drop-edges, drop-registers, drop-totals, drop-fits, drop-ends, drop-sound, drop-read}
 
 -- node b under the number a
 moved-list : (a b : ℕ) (ls : ℕ → ℕ → List ℕ) (k c : ℕ) → (c ≡ a → ⊥) → nodeMoved a b ls k (renamed b a c) ≡ ls k c

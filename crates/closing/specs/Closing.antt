@@ -1,63 +1,19 @@
 -- Taking a node out: it is stripped of its edges, one head after the other, and dropped; the last node takes its place.
-use Prim.Native.Nat.{ℕ, zero, suc, _+_, _-_}
-use mathlib.Core.Bool.{cond}
-use mathlib.Core.List.{List, [], _∷_, _++_}
+use Prim.Native.Nat.{ℕ, _+_}
+use mathlib.Core.List.{List}
 use lib.Dec.{ltb, leb}
 use lib.IntN.{ℤ, pos}
-use lib.ListN.{length, getD, set}
+use lib.ListN.{length, getD}
 use Rattle.index.specs.declared.Refusal.the-variants.{Tables, NoNode, Broken, Short}
-use Rattle.index.specs.Index.{isEnd}
-use Rattle.tables.specs.Net.{Net, net, fits, edgeCell}
-use Rattle.tables.specs.Rows.{nodeRow, vacantNode, withNode}
+use Rattle.tables.specs.Net.{Net, fits}
 use Rattle.tables.specs.Answers.{Told, Out, out, done, refused, unless, onto}
-use Rattle.lists.specs.declared.Spot.the-variants.{Head}
 use Rattle.lists.specs.declared.Item.the-variants.{Weight}
-use Rattle.lists.specs.Walk.{linkAt, around}
-use Rattle.sound.specs.Sound.{lists}
+use Rattle.lists.specs.Walk.{around}
 use Rattle.sound.specs.Check.{checked, accepted}
-use Rattle.removal.specs.Removal.{takenOut}
+use Rattle.stripping.specs.Heads.{Strip, stripped}
+use Rattle.dropping.specs.Drop.{dropped, rowsMoved}
 use Rattle.closing.specs.declared.NodeRemoved.{NodeRemoved}
 use Rattle.closing.specs.declared.NodeRemoved.the-variants as NodeRemoved·
-
--- how far the stripping has come: the network that is left, the weights of the edges taken out, the rows read
-pub record Strip : Type 0 where
-  pub rest : Net
-  pub given : List ℕ
-  pub rows : ℕ
-
-abbrev pub strip : Net → List ℕ → ℕ → Strip
-strip g given rows = record { rest = g; given = given; rows = rows }
-
--- the first edge of node a's list in direction k is taken out
-abbrev pub headOut : (k a : ℕ) → Strip → Strip
-headOut k a t =
-    let o = takenOut (t .rest) (linkAt (t .rest) k (Head a)) in
-    strip (o .after) (t .given ++ (o .answer .values .0 ∷ [])) (t .rows + o .answer .values .2)
-
--- and so on until its head is `END`, at most `most` times
-unfoldable pub emptied : (most k a : ℕ) → Strip → Strip
-emptied zero k a t = t
-emptied (suc most) k a t = cond (isEnd (linkAt (t .rest) k (Head a))) t (emptied most k a (headOut k a t))
-
--- node a without its edges: the outgoing list, then the incoming one
-unfoldable pub stripped : Net → ℕ → Strip
-stripped g a = emptied (g .m) 1 a (emptied (g .m) 0 a (strip g [] 0))
-
--- the edges xs get node a as their end of direction k
-abbrev pub ended : (k a : ℕ) → List ℕ → List ℕ → List ℕ
-ended k a [] ends = ends
-ended k a (x ∷ xs) ends = ended k a xs (set ends (edgeCell x k) a)
-
--- node a, which has no edges, goes: the row of the last node b is copied over row a and becomes vacant, and b's edges get the new number
-unfoldable pub dropped : Net → ℕ → Net
-dropped g a =
-    let b = g .n - 1 in
-    let h = withNode (withNode g a (nodeRow g b)) b vacantNode in
-    net (h .weights) (h .heads) (g .registers) (g .links) (ended 1 a (lists g 1 b) (ended 0 a (lists g 0 b) (g .ends))) b (g .m)
-
--- each row that is visited for that counts one
-abbrev pub rowsMoved : Net → ℕ
-rowsMoved g = length (lists g 0 (g .n - 1)) + length (lists g 1 (g .n - 1))
 
 -- the node's weight, the rows read, how many edges went with it; the network, and the table with their weights
 abbrev pub Closed : Type 0

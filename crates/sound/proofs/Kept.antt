@@ -18,7 +18,8 @@ use Rattle.tables.specs.Answers.{Out, unless}
 use Rattle.tables.specs.Rows.{bare, headsWith, linksWith, endsWith, withNode, withEdge, newEdge, headed, vacantNodes, vacantEdges}
 use Rattle.tables.proofs.Laws.{both, Fit, fit-says}
 use Rattle.tables.proofs.Vacant.{filled-at}
-use Rattle.rows.specs.Calls.{setNodeWeight, setEdgeWeight, addNode, linked, addEdge, clear, clearEdges}
+use Rattle.lookups.specs.Lookups.{setNodeWeight, setEdgeWeight}
+use Rattle.rows.specs.Calls.{addNode, linked, addEdge, clear, clearEdges}
 use Rattle.lists.specs.declared.Spot.{Spot}
 use Rattle.lists.specs.declared.Spot.the-variants.{Head, After}
 use Rattle.lists.specs.Walk.{linkAt}

@@ -1,0 +1,2 @@
+// A node without edges dropped.
+pub mod parts;

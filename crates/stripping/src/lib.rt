@@ -1,0 +1,2 @@
+// A node stripped of its edges.
+pub mod parts;
