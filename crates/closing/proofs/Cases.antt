@@ -12,7 +12,7 @@ use Rattle.tables.proofs.NetworkA.{empty, networkA}
 use Rattle.lists.specs.Walk.{walk, stop}
 use Rattle.sound.specs.Sound.{lists}
 use Rattle.sound.specs.Check.{walked, upTo, oneWay, checked}
-use Rattle.removal.specs.Links.{seek, searched, located, headsAt, linksAt, led}
+use Rattle.links.specs.Links.{seek, searched, located, headsAt, linksAt, led}
 use Rattle.removal.specs.Removal.{bypassed, lastOut, lastInto, lastMoved, gone, takenOut}
 use Rattle.stripping.specs.Heads.{emptied, stripped}
 use Rattle.dropping.specs.Drop.{dropped}

@@ -9,7 +9,7 @@ use Rattle.tables.specs.Net.{net, fit, nodeCell}
 use Rattle.tables.specs.Rows.{withEdge}
 use Rattle.tables.specs.Answers.{out, done, refused}
 use Rattle.tables.proofs.NetworkA.{networkA}
-use Rattle.removal.specs.Links.{seek, searched, located, headsAt, linksAt, led}
+use Rattle.links.specs.Links.{seek, searched, located, headsAt, linksAt, led}
 use Rattle.removal.specs.Removal.{bypassed, lastOut, lastInto, lastMoved, gone, takenOut, removeEdge}
 
 -- X 0: weight 10, row 3 moves, 2 rows read

@@ -22,14 +22,14 @@ use Rattle.sound.specs.Sound.{endAt, Sound, Lists}
 use Rattle.sound.proofs.Same.{counts, members}
 use Rattle.sound.proofs.Exactly.{small}
 use Rattle.sound.proofs.Kept.{fitOf, HasLists, either}
-use Rattle.removal.specs.declared.Located.{Located}
-use Rattle.removal.specs.declared.Located.the-variants as Located·
-use Rattle.removal.specs.declared.Search.the-variants as Search·
-use Rattle.removal.specs.Links.{searched, led}
+use Rattle.links.specs.declared.Located.{Located}
+use Rattle.links.specs.declared.Located.the-variants as Located·
+use Rattle.links.specs.declared.Search.the-variants as Search·
+use Rattle.links.specs.Links.{searched, led}
 use Rattle.removal.specs.Removal.{Gone, onPlace, placeOf, bypassed, lastOut, lastInto, lastMoved, gone, takenOut, removeEdge}
 use Rattle.removal.specs.Lists.{pos, renamed, left, lessEdge, rowsBefore, rowsRead, EdgeOut}
-use Rattle.removal.specs.Parts.{Place}
-use Rattle.removal.proofs.Reaches.{located-at}
+use Rattle.links.specs.Parts.{Place}
+use Rattle.links.proofs.Hits.{located-at}
 use Rattle.removal.proofs.Members.{renamed-same}
 use Rattle.removal.proofs.Spots.{spotOf, spot-has, found-at}
 use Rattle.removal.proofs.Directions.{Used, Lacking, whole, relinked, bypassing, moving}

@@ -1,4 +1,3 @@
-pub mod Seeks
 pub mod Reaches
 pub mod Ways
 pub mod Cases

@@ -15,10 +15,10 @@ use Rattle.lists.specs.declared.Spot.the-variants.{Head, After}
 use Rattle.lists.specs.Chain.{Chain, In}
 use Rattle.lists.proofs.Chains.{fresh, chain-length}
 use Rattle.sound.proofs.Listings.{in-tail}
-use Rattle.removal.specs.declared.Search.the-variants.{At}
-use Rattle.removal.specs.Links.{seek, searched}
+use Rattle.links.specs.declared.Search.the-variants.{At}
+use Rattle.links.specs.Links.{seek, searched}
 use Rattle.removal.specs.Lists.{pos}
-use Rattle.removal.proofs.Seeks.{seek-found, seek-on}
+use Rattle.links.proofs.Seeks.{seek-found, seek-on}
 use Rattle.removal.proofs.Members.{pos-below}
 
 -- the spot that leads to e, in the list that begins at spot s

@@ -19,10 +19,10 @@ use Rattle.lists.specs.Walk.{cell, linkIn, linkAt}
 use Rattle.sound.specs.Sound.{endAt}
 use Rattle.sound.proofs.Exactly.{two}
 use Rattle.sound.proofs.Kept.{fitOf, first-cell, second-cell, other-cell}
-use Rattle.removal.specs.Links.{headsAt, linksAt, led}
+use Rattle.links.specs.Links.{headsAt, linksAt, led}
 use Rattle.removal.specs.Removal.{lastOut, lastInto}
 use Rattle.removal.specs.Lists.{renamed}
-use Rattle.removal.specs.Parts.{Place}
+use Rattle.links.specs.Parts.{Place}
 
 -- a link stored at one spot of one direction
 module _ (heads links : List ℕ) where

@@ -16,8 +16,8 @@ use Rattle.tables.specs.Answers.{out, done, refused}
 use Rattle.lists.specs.declared.Spot.{Spot}
 use Rattle.lists.specs.declared.Spot.the-variants.{Head, After}
 use Rattle.lists.specs.Walk.{cell, linkIn}
-use Rattle.removal.specs.declared.Located.the-variants as Located·
-use Rattle.removal.specs.Links.{located, headsAt, linksAt, led}
+use Rattle.links.specs.declared.Located.the-variants as Located·
+use Rattle.links.specs.Links.{located, headsAt, linksAt, led}
 use Rattle.removal.specs.Removal.{Gone, bypassed, lastOut, lastInto, lastMoved, gone, takenOut, removeEdge}
 
 -- the two links of a network led elsewhere, column by column

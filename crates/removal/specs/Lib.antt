@@ -1,4 +1,3 @@
-pub mod Links
 pub mod Removal
 pub mod Lists
 pub mod Parts

@@ -11,11 +11,11 @@ use Rattle.tables.specs.Answers.{Told, Out, out, done, refused, unless}
 use Rattle.lists.specs.declared.Spot.{Spot}
 use Rattle.lists.specs.declared.Spot.the-variants.{After}
 use Rattle.lists.specs.Walk.{linkAt}
-use Rattle.removal.specs.declared.Located.{Located}
-use Rattle.removal.specs.declared.Located.the-variants as Located·
+use Rattle.links.specs.declared.Located.{Located}
+use Rattle.links.specs.declared.Located.the-variants as Located·
 use Rattle.removal.specs.declared.EdgeRemoved.{EdgeRemoved}
 use Rattle.removal.specs.declared.EdgeRemoved.the-variants as EdgeRemoved·
-use Rattle.removal.specs.Links.{located, led}
+use Rattle.links.specs.Links.{located, led}
 
 -- e's weight, the old number of the row that moved (`END` for none), the rows read
 abbrev pub Gone : Type 0

@@ -5,23 +5,10 @@ ghost use Rattle.tables.specs.Answers.{out};
 ghost use Rattle.removal.specs.Removal.{removeEdge, toldEdgeRemoved};
 use index::EdgeIndex;
 use index::Refusal;
-use lists::Spot;
 use parts::take_out;
 use tables::parts::fits;
 
 pub mod parts;
-
-// Where a link leads to the edge that is sought, and the rows read before it; or it is in no list that can be followed to it.
-pub enum Search {
-    At(Spot, u32),
-    Lost,
-}
-
-// The same of both lists of an edge: outgoing, incoming, and the rows of both.
-pub enum Located {
-    At(Spot, Spot, u32),
-    Lost,
-}
 
 // The edge's weight, the old number of the row that moved into its place (`END` where none did), the rows read.
 pub enum EdgeRemoved {

@@ -2,7 +2,8 @@
 use Prim.Native.Nat.{_*_, _-_, _≤_, _<_}
 use mathlib.Core.Path.{_≡_}
 use native.Mathlib.Omega.{arith}
-use Rattle.removal.proofs.Reaches.{removable-kept, place-kept}
+use Rattle.links.proofs.Hits.{place-kept}
+use Rattle.removal.proofs.Reaches.{removable-kept}
 use Rattle.removal.proofs.Ways.{last-goes, gap-filled}
 use borrow.Author.Needs.{needs}
 use Rattle.removal.proofs.parts.bypass.Statement.{statement}

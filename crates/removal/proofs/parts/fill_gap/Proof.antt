@@ -2,7 +2,8 @@
 use Prim.Native.Nat.{_*_, _-_, _≤_, _<_}
 use mathlib.Core.Path.{_≡_, sym, _∙_}
 use native.Mathlib.Omega.{arith}
-use Rattle.removal.proofs.Reaches.{reached, last-removable, place-kept}
+use Rattle.links.proofs.Hits.{place-kept}
+use Rattle.removal.proofs.Reaches.{reached, last-removable}
 use Rattle.removal.proofs.Ways.{last-lost, last-moves}
 use borrow.Author.Needs.{needs}
 use Rattle.removal.proofs.parts.fill_gap.Statement.{statement}

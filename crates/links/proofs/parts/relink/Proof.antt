@@ -3,11 +3,11 @@ use Prim.Native.Nat.{_+_, _*_, _<_}
 use mathlib.Core.Path.{refl}
 use native.Mathlib.Omega.{arith}
 use lib.ListN.{length}
-use Rattle.removal.specs.Links.{headsAt, linksAt}
-use Rattle.removal.specs.Parts.{Place}
+use Rattle.links.specs.Links.{headsAt, linksAt}
+use Rattle.links.specs.Parts.{Place}
 use borrow.Author.Needs.{needs}
-use Rattle.removal.proofs.parts.relink.Statement.{statement}
-use Rattle.removal.proofs.parts.relink.Tie as tie
+use Rattle.links.proofs.parts.relink.Statement.{statement}
+use Rattle.links.proofs.parts.relink.Tie as tie
 
 in-heads : (c : tie.After-known-told) → 2 * c .before .spot .given .0 .0 + c .before .before .before .args .k < length (c .before .before .before .args .heads .now)
 unfolding Place

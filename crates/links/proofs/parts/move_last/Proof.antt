@@ -1,8 +1,8 @@
 -- `move_last` meets its contract. Assumes nothing.
 use native.Mathlib.Omega.{arith}
 use borrow.Author.Needs.{needs}
-use Rattle.removal.proofs.parts.move_last.Statement.{statement}
-use Rattle.removal.proofs.parts.move_last.Tie as tie
+use Rattle.links.proofs.parts.move_last.Statement.{statement}
+use Rattle.links.proofs.parts.move_last.Tie as tie
 
 write-edge-requires-2 : tie.Need-write-edge-requires-2
 write-edge-requires-2 c κs =

@@ -2,10 +2,10 @@
 use Prim.Native.Nat.{_≤_}
 use mathlib.Core.Path.{_≡_, sym, _∙_}
 use native.Mathlib.Omega.{arith}
-use Rattle.removal.proofs.Reaches.{searched-hit, located-at, located-lost, located-lost-2}
+use Rattle.links.proofs.Hits.{searched-hit, located-at, located-lost, located-lost-2}
 use borrow.Author.Needs.{needs}
-use Rattle.removal.proofs.parts.locate.Statement.{statement}
-use Rattle.removal.proofs.parts.locate.Tie as tie
+use Rattle.links.proofs.parts.locate.Statement.{statement}
+use Rattle.links.proofs.parts.locate.Tie as tie
 
 add-t15 : tie.Need-add-t15
 add-t15 c =

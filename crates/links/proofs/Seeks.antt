@@ -5,8 +5,8 @@ use native.Mathlib.Omega.{arith}
 use borrow.Author.Tests.{lt-ltb, le-ltb, eq-eqb, ne-eqb}
 use Rattle.lists.specs.declared.Spot.{Spot}
 use Rattle.lists.specs.declared.Spot.the-variants.{After}
-use Rattle.removal.specs.declared.Search.the-variants.{At, Lost}
-use Rattle.removal.specs.Links.{seek}
+use Rattle.links.specs.declared.Search.the-variants.{At, Lost}
+use Rattle.links.specs.Links.{seek}
 
 module _ (lk : Spot → ℕ) (m e : ℕ) (s : Spot) (rows : ℕ) {link : ℕ} (is : lk s ≡ link) where
   pub seek-found : (left : ℕ) → link ≡ e → seek lk m e left s rows ≡ At s rows

@@ -1,8 +1,8 @@
 -- `lead` meets its contract. Assumes nothing.
-use Rattle.removal.proofs.Reaches.{place-kept}
+use Rattle.links.proofs.Hits.{place-kept}
 use borrow.Author.Needs.{needs}
-use Rattle.removal.proofs.parts.lead.Statement.{statement}
-use Rattle.removal.proofs.parts.lead.Tie as tie
+use Rattle.links.proofs.parts.lead.Statement.{statement}
+use Rattle.links.proofs.parts.lead.Tie as tie
 
 relink-requires-2 : tie.Need-relink-requires-2
 relink-requires-2 c κs =

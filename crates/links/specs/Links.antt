@@ -8,10 +8,10 @@ use Rattle.tables.specs.Net.{Net, net, nodeCell, edgeCell}
 use Rattle.lists.specs.declared.Spot.{Spot}
 use Rattle.lists.specs.declared.Spot.the-variants.{Head, After}
 use Rattle.lists.specs.Walk.{cell, linkIn}
-use Rattle.removal.specs.declared.Search.{Search}
-use Rattle.removal.specs.declared.Search.the-variants as Search·
-use Rattle.removal.specs.declared.Located.{Located}
-use Rattle.removal.specs.declared.Located.the-variants as Located·
+use Rattle.links.specs.declared.Search.{Search}
+use Rattle.links.specs.declared.Search.the-variants as Search·
+use Rattle.links.specs.declared.Located.{Located}
+use Rattle.links.specs.declared.Located.the-variants as Located·
 
 -- e is sought from spot s on, with `rows` rows read before and at most `left` to read: a link equal to e is found, another leads on
 -- where it is below m, and all else is a failure

@@ -7,10 +7,10 @@ use native.Mathlib.Omega.{arith}
 use borrow.Author.Needs.{needs}
 use borrow.Author.Tests.{lt-ltb, le-ltb}
 use Rattle.lists.specs.Walk.{cell, linkIn}
-use Rattle.removal.specs.Links.{seek, searched}
-use Rattle.removal.proofs.Seeks.{seek-found, seek-spent, seek-past, seek-step}
-use Rattle.removal.proofs.parts.search.Statement.{statement}
-use Rattle.removal.proofs.parts.search.Tie as tie
+use Rattle.links.specs.Links.{seek, searched}
+use Rattle.links.proofs.Seeks.{seek-found, seek-spent, seek-past, seek-step}
+use Rattle.links.proofs.parts.search.Statement.{statement}
+use Rattle.links.proofs.parts.search.Tie as tie
 
 abbrev Inv-loop : tie.InvT-loop
 Inv-loop heads links ends n m k e spot₀ link₀ rows₀ spot link rows =
