@@ -9,7 +9,7 @@ use Rattle.tables.specs.Net.{Net, fits}
 use Rattle.tables.specs.Answers.{Told, Out, out, done, refused, unless, onto}
 use Rattle.lists.specs.declared.Item.the-variants.{Weight}
 use Rattle.lists.specs.Walk.{around}
-use Rattle.sound.specs.Check.{checked, accepted}
+use Rattle.sound.specs.Check.{isSound}
 use Rattle.stripping.specs.Heads.{Strip, stripped}
 use Rattle.dropping.specs.Drop.{dropped, rowsMoved}
 use Rattle.closing.specs.declared.NodeRemoved.{NodeRemoved}
@@ -39,5 +39,5 @@ unfoldable pub removeNode : Net → ℕ → List ℕ → Closed
 removeNode g a items =
     unless (fits g) (out (refused Tables (pos 0, 0, 0)) (g, items))
     (unless (ltb a (g .n)) (out (refused NoNode (pos 0, 0, 0)) (g, items))
-    (unless (accepted (checked g)) (out (refused Broken (pos 0, 0, 0)) (g, items))
+    (unless (isSound g) (out (refused Broken (pos 0, 0, 0)) (g, items))
     (closedIfRoom g a items)))

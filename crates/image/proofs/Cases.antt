@@ -14,7 +14,7 @@ use Rattle.sound.specs.Check.{walked, upTo, oneWay, checked}
 use Rattle.layout.specs.Numbers.{le, number, numberAt, bits, signed}
 use Rattle.layout.specs.Layout.{head, nodeBytes, edgeBytes, marked, nodeAt, edgeAt}
 use Rattle.imagerows.specs.Image.{rowsOf, imageOf, each, loaded}
-use Rattle.image.specs.Calls.{isSound, settled, readOne, imageRead}
+use Rattle.image.specs.Calls.{settled, readOne, imageRead}
 
 -- one node weighing -3, no edges
 abbrev oneNode : Net
@@ -34,9 +34,9 @@ one-node-short = refl
 
 -- it is read back, and so is network A
 pub one-node-read : imageRead (empty 1 0) (imageOf oneNode) ≡ out (done tt) oneNode
-unfolding imageRead readOne settled isSound checked oneWay upTo walked loaded each withNode withEdge vacantNodes vacantEdges nodeAt edgeAt signed imageOf rowsOf head nodeBytes edgeBytes le bits number numberAt marked fit
+unfolding imageRead readOne settled checked oneWay upTo walked loaded each withNode withEdge vacantNodes vacantEdges nodeAt edgeAt signed imageOf rowsOf head nodeBytes edgeBytes le bits number numberAt marked fit
 one-node-read = refl
 
 pub network-a-read : imageRead (empty 3 4) (imageOf networkA) ≡ out (done tt) networkA
-unfolding networkA imageRead readOne settled isSound checked oneWay upTo walked loaded each withNode withEdge vacantNodes vacantEdges nodeAt edgeAt signed imageOf rowsOf head nodeBytes edgeBytes le bits number numberAt marked fit
+unfolding networkA imageRead readOne settled checked oneWay upTo walked loaded each withNode withEdge vacantNodes vacantEdges nodeAt edgeAt signed imageOf rowsOf head nodeBytes edgeBytes le bits number numberAt marked fit
 network-a-read = refl

@@ -19,14 +19,14 @@ use Rattle.tables.proofs.Laws.{both, fit-says}
 use Rattle.sound.specs.declared.Checked.{Checked}
 use Rattle.sound.specs.declared.Checked.the-variants as Checked·
 use Rattle.sound.specs.Sound.{Sound, lists}
-use Rattle.sound.specs.Check.{checked, accepted}
+use Rattle.sound.specs.Check.{checked, accepted, isSound}
 use Rattle.sound.proofs.Exactly.{two, sound-accepted, accepted-sound}
 use Rattle.sound.proofs.Kept.{Agree, in-use}
 use Rattle.layout.specs.Layout.{version, headBytes, imageLength, marked, versionIn, nodesIn, edgesIn}
 use Rattle.layout.proofs.Words.{node-read, edge-read}
 use Rattle.imagerows.specs.Image.{imageOf, nodePlace, edgePlace, loaded}
 use Rattle.image.specs.RoundTrip.{Cells, SameRows}
-use Rattle.image.specs.Calls.{isSound, settled, imageWrite, readOne, imageRead, emptied}
+use Rattle.image.specs.Calls.{settled, imageWrite, readOne, imageRead, vacated}
 use Rattle.imagerows.proofs.Served.{image-length}
 use Rattle.imagerows.proofs.Spans.{image-marked, image-version, image-nodes, image-edges, node-stands, edge-stands}
 use Rattle.imagerows.proofs.Loads.{loaded-columns, loaded-fits, loaded-node, loaded-edge}
@@ -38,11 +38,9 @@ accepted-is (Checked·.Fault d a) h = absurd (let z : _≡_ {A = ℕ} 0 1 = cc i
 accepted-is (Checked·.Refused why) h = absurd (let z : _≡_ {A = ℕ} 0 1 = cc in omega arith)
 
 pub sound-is : (g : Net) (ls : ℕ → ℕ → List ℕ) → fits g ≡ true → Sound g ls → isSound g ≡ true
-unfolding isSound
 sound-is g ls f S = ap accepted (sound-accepted g ls f S)
 
 pub is-sound-says : (g : Net) → isSound g ≡ true → Sound g (lists g)
-unfolding isSound
 is-sound-says g h = let a = accepted-is (checked g) h in accepted-sound g (a .0) (a .1) .1
 
 -- what an answer 0 says of the tests before it
@@ -72,7 +70,7 @@ read-says t bytes h =
     let c = passed (eqb (versionIn bytes) version) Version tt t _ (b .1) in
     let d = passed (leb n (length (t .weights)) && leb m (length (t .registers))) Full tt t _ (c .1) in
     let e = passed (eqb (length bytes) (imageLength n m)) NotImage tt t _ (d .1) in
-    let f = passed (isSound (loaded t bytes n m)) Broken tt (emptied (loaded t bytes n m)) _ (e .1) in
+    let f = passed (isSound (loaded t bytes n m)) Broken tt (vacated (loaded t bytes n m)) _ (e .1) in
     let x = both (leb headBytes (length bytes)) (marked bytes) (b .0) in
     let y = both (leb n (length (t .weights))) (leb m (length (t .registers))) (d .0) in
     record {

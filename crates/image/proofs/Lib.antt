@@ -1,5 +1,5 @@
 pub mod Served
-pub mod Emptied
+pub mod Vacated
 pub mod Copies
 pub mod RoundTrip
 pub mod Cases

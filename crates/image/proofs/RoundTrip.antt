@@ -1,6 +1,6 @@
 -- An image written and read back gives the same rows: `written-read`. A file read and written back gives the same bytes: `read-written`.
--- Nothing but an image is read: `only-images`, `read-image`. What a read leaves: `read-past`, `broken-emptied`, `refused-kept`, `emptied-node`,
--- `emptied-edge`. A write is refused 6 exactly where the network is not sound: `unsound-6`, `six-unsound`. Assumes nothing.
+-- Nothing but an image is read: `only-images`, `read-image`. What a read leaves: `read-past`, `broken-vacated`, `refused-kept`, `vacated-node`,
+-- `vacated-edge`. A write is refused 6 exactly where the network is not sound: `unsound-6`, `six-unsound`. Assumes nothing.
 use Prim.{Unit, tt}
 use Prim.Native.Nat.{ℕ, _≤_, _<_}
 use mathlib.Core.Path.{_≡_, refl, sym, ap, subst, _∙_}
@@ -25,10 +25,11 @@ use Rattle.layout.specs.Layout.{mark, version, headBytes, imageLength, nodeByte
 use Rattle.layout.proofs.Words.{node-back, edge-back}
 use Rattle.imagerows.specs.Image.{imageOf, nodePlace, edgePlace, loaded}
 use Rattle.image.specs.RoundTrip.{Cells, SameRows}
-use Rattle.image.specs.Calls.{isSound, settled, imageWrite, readOne, imageRead, emptied}
+use Rattle.sound.specs.Check.{isSound}
+use Rattle.image.specs.Calls.{settled, imageWrite, readOne, imageRead, vacated}
 use Rattle.imagerows.proofs.Spans.{mark-again, image-again}
 use Rattle.imagerows.proofs.Loads.{loaded-columns, loaded-fits, loaded-node, loaded-edge, node-past, edge-past}
-use Rattle.image.proofs.Emptied.{loaded-emptied}
+use Rattle.image.proofs.Vacated.{loaded-vacated}
 use Rattle.image.proofs.Copies.{sound-is, is-sound-says, read-says, read-is, write-says, write-is, copy-same, copy-read}
 
 -- what was written, read into other tables
@@ -113,7 +114,7 @@ either P false refusal rest p q = p refl
 
 -- a read refused 6 leaves all that was lent empty; any other refusal leaves it as it was
 abbrev Leaves : Net → Out Unit Net → Type 0
-Leaves t o = (o .answer .number ≡ 6 → o .after ≡ emptied t) × ((o .answer .number ≡ 0 → ⊥) → (o .answer .number ≡ 6 → ⊥) → o .after ≡ t)
+Leaves t o = (o .answer .number ≡ 6 → o .after ≡ vacated t) × ((o .answer .number ≡ 0 → ⊥) → (o .answer .number ≡ 6 → ⊥) → o .after ≡ t)
 
 kept : (t : Net) (why : Refusal) → (refusalNo why ≡ 6 → ⊥) → Leaves t (out (refused why tt) t)
 kept t why n = (λ h. absurd (n h), λ h k. refl)
@@ -131,26 +132,26 @@ read-leaves t bytes =
     either (Leaves t) (isSound (loaded t bytes n m)) _ _
     (λ _.
     let y = both (leb n (length (t .weights))) (leb m (length (t .registers))) w in
-    (λ h. loaded-emptied t bytes n m f (leb-true _ _ (y .0)) (leb-true _ _ (y .1)), λ h k. absurd (k refl)))
+    (λ h. loaded-vacated t bytes n m f (leb-true _ _ (y .0)) (leb-true _ _ (y .1)), λ h k. absurd (k refl)))
     (λ _. (λ (h : _≡_ {A = ℕ} 0 6). absurd (omega arith), λ h k. absurd (h refl))))))))
 
-pub broken-emptied : (t : Net) (bytes : List ℕ) → imageRead t bytes .answer .number ≡ 6 → imageRead t bytes .after ≡ emptied t
-broken-emptied t bytes = read-leaves t bytes .0
+pub broken-vacated : (t : Net) (bytes : List ℕ) → imageRead t bytes .answer .number ≡ 6 → imageRead t bytes .after ≡ vacated t
+broken-vacated t bytes = read-leaves t bytes .0
 
 pub refused-kept : (t : Net) (bytes : List ℕ) → (imageRead t bytes .answer .number ≡ 0 → ⊥) → (imageRead t bytes .answer .number ≡ 6 → ⊥)
     → imageRead t bytes .after ≡ t
 refused-kept t bytes = read-leaves t bytes .1
 
 -- and empty is: no row in use, every row vacant
-pub emptied-node : (t : Net) (a : ℕ) → fits t ≡ true → a < length (t .weights) → nodeRow (emptied t) a ≡ vacantNode
-unfolding emptied vacantEdges
-emptied-node t a f h =
+pub vacated-node : (t : Net) (a : ℕ) → fits t ≡ true → a < length (t .weights) → nodeRow (vacated t) a ≡ vacantNode
+unfolding vacated vacantEdges
+vacated-node t a f h =
     let l = fit-says (length (t .weights)) (length (t .heads)) (length (t .registers)) (length (t .links)) (length (t .ends)) (t .n) (t .m) f in
     vacant-node t 0 (length (t .weights)) (record { ordered = omega arith; weights-hold = omega arith; heads-hold = omega arith }) a (omega arith) h
 
-pub emptied-edge : (t : Net) (e : ℕ) → fits t ≡ true → e < length (t .registers) → edgeRow (emptied t) e ≡ vacantEdge
-unfolding emptied vacantNodes
-emptied-edge t e f h =
+pub vacated-edge : (t : Net) (e : ℕ) → fits t ≡ true → e < length (t .registers) → edgeRow (vacated t) e ≡ vacantEdge
+unfolding vacated vacantNodes
+vacated-edge t e f h =
     let l = fit-says (length (t .weights)) (length (t .heads)) (length (t .registers)) (length (t .links)) (length (t .ends)) (t .n) (t .m) f in
     vacant-edge (vacantNodes t 0 (length (t .weights))) 0 (length (t .registers))
     (record { ordered = omega arith; registers-hold = omega arith; links-hold = omega arith; ends-hold = omega arith }) e (omega arith) h

@@ -17,20 +17,21 @@ use Rattle.layout.specs.Numbers.{placed}
 use Rattle.layout.specs.Layout.{version, headBytes, imageLength, marked, versionIn, nodesIn, edgesIn}
 use Rattle.imagerows.specs.Image.{imageOf, loaded}
 use Rattle.imagerows.proofs.Served.{image-length, counts-free}
-use Rattle.image.specs.Calls.{isSound, emptied, settled, readOne, imageRead, imageWrite}
+use Rattle.sound.specs.Check.{isSound}
+use Rattle.image.specs.Calls.{vacated, settled, readOne, imageRead, imageWrite}
 
-pub emptied-is : (g : Net) {weights : List ℤ} {heads registers links ends : List ℕ}
+pub vacated-is : (g : Net) {weights : List ℤ} {heads registers links ends : List ℕ}
     → weights ≡ filled (g .weights) 0 (length (g .weights)) (pos 0) → heads ≡ filled (g .heads) 0 (nodeCells * length (g .weights)) END
     → registers ≡ filled (g .registers) 0 (length (g .registers)) 0
     → links ≡ filled (g .links) 0 (edgeCells * length (g .registers)) END → ends ≡ filled (g .ends) 0 (edgeCells * length (g .registers)) END
-    → net weights heads registers links ends 0 0 ≡ emptied g
-unfolding emptied vacantNodes vacantEdges
-emptied-is g p q r s t = rw (p, q, r, s, t)
+    → net weights heads registers links ends 0 0 ≡ vacated g
+unfolding vacated vacantNodes vacantEdges
+vacated-is g p q r s t = rw (p, q, r, s, t)
 
 -- a network that was loaded is left empty, or stays
-pub broken-emptied : (g : Net) {h : Net} → isSound g ≡ false → h ≡ emptied (withCounts g 0 0) → out (refused Broken tt) h ≡ settled g
-unfolding settled emptied vacantNodes vacantEdges
-broken-emptied g f e = rw (f, e)
+pub broken-vacated : (g : Net) {h : Net} → isSound g ≡ false → h ≡ vacated (withCounts g 0 0) → out (refused Broken tt) h ≡ settled g
+unfolding settled vacated vacantNodes vacantEdges
+broken-vacated g f e = rw (f, e)
 
 pub sound-kept : (g : Net) → isSound g ≡ true → out (done tt) g ≡ settled g
 unfolding settled

@@ -1,7 +1,7 @@
 -- What each call answers, and what it leaves.
 use Prim.{Unit, tt}
 use Prim.Native.Nat.{ℕ}
-use mathlib.Core.Bool.{Bool, _&&_}
+use mathlib.Core.Bool.{_&&_}
 use mathlib.Core.List.{List}
 use lib.Dec.{leb, eqb}
 use lib.ListN.{length}
@@ -9,13 +9,9 @@ use Rattle.index.specs.declared.Refusal.the-variants.{Tables, Full, Broken, Not
 use Rattle.tables.specs.Net.{Net, fits, withCounts}
 use Rattle.tables.specs.Answers.{Out, out, done, refused, unless, give}
 use Rattle.tables.specs.Rows.{vacantNodes, vacantEdges}
-use Rattle.sound.specs.Check.{checked, accepted}
+use Rattle.sound.specs.Check.{isSound}
 use Rattle.layout.specs.Layout.{version, headBytes, imageLength, marked, versionIn, nodesIn, edgesIn}
 use Rattle.imagerows.specs.Image.{imageOf, loaded}
-
--- the check accepts exactly the sound networks
-unfoldable pub isSound : Net → Bool
-isSound g = accepted (checked g)
 
 -- the image into an output table: 1, 6, 7
 unfoldable pub imageWrite : Net → List ℕ → Out ℕ (List ℕ)
@@ -25,13 +21,13 @@ imageWrite g bytes =
     (give (imageOf g) bytes))
 
 -- no row is in use, and all rows lent are vacant
-unfoldable pub emptied : Net → Net
-emptied g = withCounts (vacantEdges (vacantNodes g 0 (length (g .weights))) 0 (length (g .registers))) 0 0
+unfoldable pub vacated : Net → Net
+vacated g = withCounts (vacantEdges (vacantNodes g 0 (length (g .weights))) 0 (length (g .registers))) 0 0
 
 -- a network that was loaded stays if it is sound; else 6, and nothing is left of it
 unfoldable pub settled : Net → Out Unit Net
 settled g =
-    unless (isSound g) (out (refused Broken tt) (emptied g))
+    unless (isSound g) (out (refused Broken tt) (vacated g))
     (out (done tt) g)
 
 -- a version 1 image: 2 for its counts, 8 for its length, 6

@@ -4,7 +4,8 @@ ghost use lib.ListN.{length};
 ghost use Rattle.tables.specs.Net.{entering, leaving};
 ghost use Rattle.tables.specs.Answers.{out, toldChange};
 ghost use Rattle.imagerows.specs.Parts.{RowsAgree};
-ghost use Rattle.image.specs.Calls.{isSound, emptied, settled, readOne};
+ghost use Rattle.sound.specs.Check.{isSound};
+ghost use Rattle.image.specs.Calls.{vacated, settled, readOne};
 ghost use Rattle.image.specs.Parts.{HeadHeld};
 use imagerows::parts::load;
 use index::Refusal;
@@ -45,7 +46,7 @@ fn empty(
     ends: &mut [u32],
 )
     requires { ⌜ RowsAgree (length (now weights)) (length (now heads)) (length (now registers)) (length (now links)) (length (now ends)) ⌝ }
-    ensures { λ r. ⌜ leaving weights heads registers links ends 0 0 ≡ emptied (entering weights heads registers links ends 0 0) ⌝ }
+    ensures { λ r. ⌜ leaving weights heads registers links ends 0 0 ≡ vacated (entering weights heads registers links ends 0 0) ⌝ }
 {
     let nodes = weights.len();
     let edges = registers.len();

@@ -37,7 +37,7 @@ edgeBytes row = le 4 (row .weight) ++ (le 4 (row .outgoing .0) ++ (le 4 (row .in
 
 -- the first three bytes are the mark
 unfoldable pub marked : List ℕ → Bool
-marked bytes = eqb (getD bytes 0 0) 87 && eqb (getD bytes 1 0) 78 && eqb (getD bytes 2 0) 84
+marked bytes = eqb (getD bytes 0 0) (getD mark 0 0) && eqb (getD bytes 1 0) (getD mark 1 0) && eqb (getD bytes 2 0) (getD mark 2 0)
 
 abbrev pub versionIn : List ℕ → ℕ
 versionIn bytes = numberAt 2 bytes 3

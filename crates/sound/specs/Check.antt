@@ -62,6 +62,9 @@ accepted (Checked·.Accepted rows) = true
 accepted (Checked·.Fault d a) = false
 accepted (Checked·.Refused why) = false
 
+abbrev pub isSound : Net → Bool
+isSound g = accepted (checked g)
+
 -- rows read, direction and node: an accepted network tells the rows and two zeros, a fault a zero and its place, a refusal zeros
 abbrev pub toldChecked : Checked → Told (ℕ × ℕ × ℕ)
 toldChecked (Checked·.Accepted rows) = done (rows, 0, 0)

@@ -1,6 +1,6 @@
 -- `parts::empty` meets its contract: each column is what its part leaves. Assumes nothing.
 use borrow.Author.Needs.{needs}
-use Rattle.image.proofs.Served.{emptied-is}
+use Rattle.image.proofs.Served.{vacated-is}
 use Rattle.image.proofs.parts.empty.Statement.{statement}
 use Rattle.image.proofs.parts.empty.Tie as tie
 
@@ -8,7 +8,7 @@ returns : tie.Need-returns
 returns c =
     let v = c .before .before .before .before .before .before .before .before .before .before .before .before .before .vacate-nodes .ensures in
     let w = c .before .before .before .before .before .before .vacate-edges .ensures in
-    emptied-is _ (v .weights-are) (v .heads-are) (w .registers-are) (w .links-are) (w .ends-are)
+    vacated-is _ (v .weights-are) (v .heads-are) (w .registers-are) (w .links-are) (w .ends-are)
 
 pub empty-spec : {M : Type 1} → statement M
 empty-spec =

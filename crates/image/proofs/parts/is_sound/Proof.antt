@@ -1,19 +1,16 @@
 -- `parts::is_sound` meets its contract, by the answer of the check. Assumes nothing.
 use borrow.Author.Needs.{needs}
-use Rattle.image.specs.Calls.{isSound}
+use Rattle.sound.specs.Check.{isSound}
 use Rattle.image.proofs.parts.is_sound.Statement.{statement}
 use Rattle.image.proofs.parts.is_sound.Tie as tie
 
 returns : tie.Need-returns
-unfolding isSound
 returns c = rw (← c .before .before .check .ensures, c .enum-told .given .1)
 
 returns-2 : tie.Need-returns-2
-unfolding isSound
 returns-2 c = rw (← c .before .before .check .ensures, c .enum-told2 .given .1)
 
 returns-3 : tie.Need-returns-3
-unfolding isSound
 returns-3 c = rw (← c .before .before .check .ensures, c .enum-told3 .given .1)
 
 pub is-sound-spec : {M : Type 1} → statement M

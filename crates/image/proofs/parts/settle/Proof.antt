@@ -1,12 +1,12 @@
 -- `parts::settle` meets its contract, by what the check says. Assumes nothing.
 use borrow.Author.Needs.{needs}
 use Rattle.tables.proofs.Laws.{misfit, fitted}
-use Rattle.image.proofs.Served.{broken-emptied, sound-kept}
+use Rattle.image.proofs.Served.{broken-vacated, sound-kept}
 use Rattle.image.proofs.parts.settle.Statement.{statement}
 use Rattle.image.proofs.parts.settle.Tie as tie
 
 returns : tie.Need-returns
-returns c = broken-emptied _ (misfit (c .before .before .before .before .before .before .before .before .before .before .before .before .before .before .before .before .is-sound .ensures) (c .before .before .before .before .before .before .before .before .before .before .before .before .before .before .before .if1 .taken)) (c .before .before .before .before .before .before .before .before .before .empty .ensures)
+returns c = broken-vacated _ (misfit (c .before .before .before .before .before .before .before .before .before .before .before .before .before .before .before .before .is-sound .ensures) (c .before .before .before .before .before .before .before .before .before .before .before .before .before .before .before .if1 .taken)) (c .before .before .before .before .before .before .before .before .before .empty .ensures)
 
 returns-2 : tie.Need-returns-2
 returns-2 c = sound-kept _ (fitted (c .before .is-sound .ensures) (c .if1 .left))

@@ -1,4 +1,4 @@
--- Tables that are left empty are vacant throughout: `emptied-is-vacant`; and a load that is broken leaves the tables lent so: `loaded-emptied`.
+-- Tables that are left empty are vacant throughout: `vacated-is-vacant`; and a load that is broken leaves the tables lent so: `loaded-vacated`.
 -- Assumes nothing.
 use Prim.Native.Nat.{ℕ, _*_, _≤_}
 use mathlib.Core.Path.{_≡_, refl, sym, ap₂, _∙_}
@@ -14,7 +14,7 @@ use Rattle.tables.specs.Rows.{filled, vacantNodes, vacantEdges}
 use Rattle.tables.proofs.Laws.{fit-says}
 use Rattle.imagerows.specs.Image.{loaded}
 use Rattle.imagerows.proofs.Loads.{loaded-fits, loaded-nodes, loaded-edges}
-use Rattle.image.specs.Calls.{emptied}
+use Rattle.image.specs.Calls.{vacated}
 
 -- tables that are vacant throughout, by the rows that they have
 abbrev vacant : ℕ → ℕ → Net
@@ -25,9 +25,9 @@ all-filled : {A : Type 0} (l : List A) (k : ℕ) (x : A) → length l ≡ k → 
 all-filled l k x e =
     ap₂ (λ (i : ℕ) (r : List _). replicate i x ++ r) (sub-zero k) (drop-of-length-le l {i = k} (omega arith)) ∙ append-nil (replicate k x)
 
-pub emptied-is-vacant : (t : Net) → fits t ≡ true → emptied t ≡ vacant (length (t .weights)) (length (t .registers))
-unfolding emptied vacantNodes vacantEdges
-emptied-is-vacant t h =
+pub vacated-is-vacant : (t : Net) → fits t ≡ true → vacated t ≡ vacant (length (t .weights)) (length (t .registers))
+unfolding vacated vacantNodes vacantEdges
+vacated-is-vacant t h =
     let f = fit-says (length (t .weights)) (length (t .heads)) (length (t .registers)) (length (t .links)) (length (t .ends)) (t .n) (t .m) h in
     rw (
       all-filled (t .weights) (length (t .weights)) (pos 0) refl,
@@ -37,9 +37,9 @@ emptied-is-vacant t h =
       all-filled (t .ends) (edgeCells * length (t .registers)) END (f .ends-agree),
     )
 
-pub loaded-emptied : (t : Net) (bytes : List ℕ) (n m : ℕ) → fits t ≡ true → n ≤ length (t .weights) → m ≤ length (t .registers)
-    → emptied (loaded t bytes n m) ≡ emptied t
-loaded-emptied t bytes n m f hn hm =
-    emptied-is-vacant (loaded t bytes n m) (loaded-fits t bytes n m f hn hm)
+pub loaded-vacated : (t : Net) (bytes : List ℕ) (n m : ℕ) → fits t ≡ true → n ≤ length (t .weights) → m ≤ length (t .registers)
+    → vacated (loaded t bytes n m) ≡ vacated t
+loaded-vacated t bytes n m f hn hm =
+    vacated-is-vacant (loaded t bytes n m) (loaded-fits t bytes n m f hn hm)
     ∙ ap₂ vacant (loaded-nodes t bytes n m f hn hm) (loaded-edges t bytes n m f hn hm)
-    ∙ sym (emptied-is-vacant t f)
+    ∙ sym (vacated-is-vacant t f)
