@@ -30,7 +30,7 @@ use Rattle.closing.proofs.NodeOuts as NodeOuts·
 use Rattle.commands.specs.Commands.{addNodeLine, addEdgeLine, updateEdgeLine, removeEdgeLine, removeNodeLine, clearEdgesLine, clearLine}
 use Rattle.commands.proofs.Ways.{node-ways}
 
-filled-length : {A : Type 0} (l : List A) (first last : ℕ) (x : A) → first ≤ last → last ≤ length l → length (filled l first last x) ≡ length l
+pub filled-length : {A : Type 0} (l : List A) (first last : ℕ) (x : A) → first ≤ last → last ≤ length l → length (filled l first last x) ≡ length l
 filled-length l first last x h k =
     let front = length-append (take first l) (replicate (last - first) x ++ drop last l) in
     let back = length-append (replicate (last - first) x) (drop last l) in
@@ -92,7 +92,7 @@ edge-fits g a b w f =
     (omega (arith, ltb-true (g .m) (length (g .registers)) l)))))
 
 -- whatever a search comes to
-sought-by : {A : Type 0} (P : A → Type 0) (s : Sought) (found : ℕ → A) (missing endless : A) → ((e : ℕ) → P (found e)) → P missing → P endless
+pub sought-by : {A : Type 0} (P : A → Type 0) (s : Sought) (found : ℕ → A) (missing endless : A) → ((e : ℕ) → P (found e)) → P missing → P endless
     → P (on s found missing endless)
 sought-by P (Row e k) found missing endless p q r = p (e .0)
 sought-by P Missing found missing endless p q r = q

@@ -1,4 +1,5 @@
--- On a network that fits and is sound no command is told 6: `add-node-6` to `clear-6`. Assumes nothing.
+-- On a network that fits and is sound no call answers 6: `find-6`, `update-6`, `gone-6`, `closed-6`, `walked-6`, `sum-6`; so no command is told 6:
+-- `add-node-6` to `clear-6`. Assumes nothing.
 use Prim.Native.Nat.{ℕ, zero, suc, _<_}
 use mathlib.Core.Path.{_≡_, refl, ap, subst}
 use mathlib.Core.Logic.{⊎-elim}
@@ -38,10 +39,10 @@ use Rattle.commands.proofs.Ways.{either-way, tested, missing-is}
 use Rattle.commands.proofs.Kept.{Sane}
 
 -- an answer that is no 6, with what a call leaves or without
-abbrev Not6 : {A : Type 0} → Told A → Type 0
+abbrev pub Not6 : {A : Type 0} → Told A → Type 0
 Not6 told = told .number ≡ 6 → ⊥
 
-abbrev Leaves6 : {A S : Type 0} → Out A S → Type 0
+abbrev pub Leaves6 : {A S : Type 0} → Out A S → Type 0
 Leaves6 o = Not6 (o .answer)
 
 chosen-6 : (b : Bool) (x y : Reply) → (x .number ≡ 6 → ⊥) → (y .number ≡ 6 → ⊥) → cond b x y .number ≡ 6 → ⊥
@@ -75,10 +76,10 @@ nothing-6 : (g : Net) → Leaves6 (clear g)
 unfolding clear
 nothing-6 g = tested Leaves6 (fits g) _ _ (λ z. omega arith) (λ f z. omega arith)
 
-give-6 : (items table : List ℕ) → Leaves6 (give items table)
+pub give-6 : (items table : List ℕ) → Leaves6 (give items table)
 give-6 items table = tested Leaves6 (leb (length items) (length table)) _ _ (λ z. omega arith) (λ l z. omega arith)
 
-three-6 : (items : Item → List ℕ) (t : Tables3) → Leaves6 (giveThree items t)
+pub three-6 : (items : Item → List ℕ) (t : Tables3) → Leaves6 (giveThree items t)
 three-6 items t = tested Leaves6 (roomFor (length (items Number)) t) _ _ (λ z. omega arith) (λ l z. omega arith)
 
 -- a search of a list that ends
@@ -111,7 +112,7 @@ module _ (g : Net) (ls : ℕ → ℕ → List ℕ) (f : fits g ≡ true) (S : So
   unbroken : (k a : ℕ) → k < 2 → a < g .n → broken g k a ≡ false
   unbroken k a h l = chain-ends (linkAt g k) (g .m) (small g f) (Head a) (ls k a) (S .all-end k a h l)
 
-  sought-ways : {X : Type 0} (P : X → Type 0) (found : ℕ → X) (missing endless : X) (a b : ℕ) → a < g .n
+  pub sought-ways : {X : Type 0} (P : X → Type 0) (found : ℕ → X) (missing endless : X) (a b : ℕ) → a < g .n
       → ((e : ℕ) → P (found e)) → P missing → P (on (sought g a b) found missing endless)
   unfolding soughtFrom
   sought-ways P found missing endless a b l p q =
@@ -120,21 +121,21 @@ module _ (g : Net) (ls : ℕ → ℕ → List ℕ) (f : fits g ≡ true) (S : So
       first-ways P found missing endless 0 (picks g 0 to a) (broken g 0 a) incoming (unbroken 0 a (omega arith) l) p
       (first-ways P found missing endless 1 (picks g 1 to a) (broken g 1 a) Missing (unbroken 1 a (omega arith) l) p q)
 
-  find-6 : (a b : ℕ) → Not6 (findEdge g a b)
+  pub find-6 : (a b : ℕ) → Not6 (findEdge g a b)
   unfolding findEdge
   find-6 a b =
       tested Not6 (fits g) _ _ (λ z. omega arith) (λ e.
       tested Not6 (ltb a (g .n)) _ _ (λ z. omega arith) (λ l.
       sought-ways Not6 _ _ _ a b (ltb-true a (g .n) l) (λ e z. omega arith) (λ z. omega arith)))
 
-  update-6 : (a b w : ℕ) → Leaves6 (updateEdge g a b w)
+  pub update-6 : (a b w : ℕ) → Leaves6 (updateEdge g a b w)
   unfolding updateEdge
   update-6 a b w =
       tested Leaves6 (fits g) _ _ (λ z. omega arith) (λ e.
       tested Leaves6 (ltb a (g .n)) _ _ (edge-6 g a b w) (λ l.
       sought-ways Leaves6 _ _ _ a b (ltb-true a (g .n) l) (λ e z. omega arith) (edge-6 g a b w)))
 
-  gone-6 : (e : ℕ) → Leaves6 (removeEdge g e)
+  pub gone-6 : (e : ℕ) → Leaves6 (removeEdge g e)
   unfolding removeEdge
   gone-6 e =
       tested Leaves6 (fits g) _ _ (λ z. omega arith) (λ h.
@@ -142,14 +143,14 @@ module _ (g : Net) (ls : ℕ → ℕ → List ℕ) (f : fits g ≡ true) (S : So
       let zero-so = ap (λ (t : Told (ℕ × ℕ × ℕ)). t .number) (taken-out g ls e f S (ltb-true e (g .m) l) .served) in
       omega (arith, zero-so, z)))
 
-  closed-6 : (a : ℕ) (items : List ℕ) → Leaves6 (removeNode g a items)
+  pub closed-6 : (a : ℕ) (items : List ℕ) → Leaves6 (removeNode g a items)
   closed-6 a items z =
       ⊎-elim
       (λ l. six-unsound g a items f (ltb-true a (g .n) l) z (ls, S))
       (λ l. let three-so = ap (λ (o : Closed). o .answer .number) (missing-is g a items f l) in omega (arith, three-so, z))
       (either-way (ltb a (g .n)))
 
-  walked-6 : {T : Type 0} (a : ℕ) (table : T) (given : Out ℕ T) → Leaves6 given → Leaves6 (walked g a table given)
+  pub walked-6 : {T : Type 0} (a : ℕ) (table : T) (given : Out ℕ T) → Leaves6 given → Leaves6 (walked g a table given)
   walked-6 a table given h =
       tested Leaves6 (fits g) _ _ (λ z. omega arith) (λ e.
       tested Leaves6 (ltb a (g .n)) _ _ (λ z. omega arith) (λ l.
@@ -163,7 +164,7 @@ module _ (g : Net) (ls : ℕ → ℕ → List ℕ) (f : fits g ≡ true) (S : So
       (subst (λ (xs : List ℕ). present (g .n) xs ≡ true) (append-nil second) q)
       (g .m) (linkAt g 0 (Head a))
 
-  sum-6 : (a : ℕ) → Not6 (sumAround g a)
+  pub sum-6 : (a : ℕ) → Not6 (sumAround g a)
   unfolding sumAround
   sum-6 a =
       tested Not6 (fits g) _ _ (λ z. omega arith) (λ e.

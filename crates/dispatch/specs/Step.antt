@@ -39,6 +39,10 @@ givesThree s o = replied (o .reply) (state (s .network) (o .after))
 abbrev pub changesAndGives : State → Replied (Net × List ℕ) → Replied State
 changesAndGives s o = replied (o .reply) (state (o .after .0) (tables3 (o .after .1) (s .tables .sources) (s .tables .targets)))
 
+-- a line that is no command is told `? 10` and changes nothing
+abbrev pub noCommand : State → Replied State
+noCommand s = tells s (bareReply 63 (refusalNo NotCommand))
+
 -- a letter is one of these
 abbrev pub among : ℕ → List ℕ → Bool
 among x [] = false
@@ -76,7 +80,7 @@ step letter o s =
     (cond (eqb letter 83) (tells s (checkLine g))
     (cond (eqb letter 67) (changes s (clearEdgesLine g))
     (cond (eqb letter 90) (changes s (clearLine g))
-    (tells s (bareReply 63 (refusalNo NotCommand))))))))))))))))
+    (noCommand s))))))))))))))
 
 -- the state as the dispatch finds it, and as it leaves it
 abbrev pub found : Lent ℤ → Lent ℕ → Lent ℕ → Lent ℕ → Lent ℕ → Count → Count → Lent ℕ → Lent ℕ → Lent ℕ → State

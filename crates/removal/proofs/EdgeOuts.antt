@@ -186,7 +186,7 @@ unfolding removeEdge
 edge-out g ls e f S lt = rw (f, lt-ltb e (g .m) lt) (taken-out g ls e f S lt)
 
 -- what the searches come to, found or lost
-by-place : (P : Gone → Type 0) (w : Located) (found : Spot → Spot → ℕ → Gone) (lost : Gone) → ((s t : Spot) (rows : ℕ) → P (found s t rows)) → P lost
+pub by-place : (P : Gone → Type 0) (w : Located) (found : Spot → Spot → ℕ → Gone) (lost : Gone) → ((s t : Spot) (rows : ℕ) → P (found s t rows)) → P lost
     → P (onPlace w found lost)
 by-place P (Located·.At s t rows) found lost p q = p s t rows
 by-place P Located·.Lost found lost p q = q

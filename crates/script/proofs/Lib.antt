@@ -1,0 +1,9 @@
+pub mod Reading
+pub mod Listing
+pub mod Turns
+pub mod Limits
+pub mod Whole
+pub mod Throughout
+pub mod Sizes
+pub mod Sayings
+pub mod Cases
