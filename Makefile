@@ -1,8 +1,13 @@
-# What `make run` runs. The program `netrun` is not there yet: the oracle prints what it must print.
+# What `make run` answers, and what `make compare` runs: scripts 0 to COUNT - 1 of a seed.
 SCRIPT ?= oracle/tests/network_a.script
+SEED ?= 1
+COUNT ?= 20000
 
-run:
-	@cargo run --release --offline --quiet --manifest-path oracle/Cargo.toml --bin oracle < $(SCRIPT)
+CARGO = --release --offline --manifest-path oracle/Cargo.toml
+SOURCES = crates.txt $(shell find crates -name '*.rt' -o -name '*.antt')
+
+run: target/bin/netrun
+	@target/bin/netrun < $(SCRIPT)
 
 test:
 	bash .ci/run
@@ -11,6 +16,23 @@ check:
 	rt check
 
 oracle:
-	cargo test --release --workspace --offline --manifest-path oracle/Cargo.toml
+	cargo test $(CARGO) --workspace
 
-.PHONY: run test check oracle
+# The proved run against graph.rs; the first mismatch comes cut down to its shortest.
+compare: target/staticlib/libscript.a
+	cargo run $(CARGO) --quiet -p host --features built -- $(SEED) $(COUNT)
+
+# Records anew what graph.rs answers to the list of `replay`.
+replay:
+	cargo run $(CARGO) --quiet --bin record
+
+# Both are proved first, with what they stand on. What has not changed since is not proved again.
+target/bin/netrun: $(SOURCES)
+	@rt check netrun >&2
+	@touch $@
+
+target/staticlib/libscript.a: $(SOURCES)
+	@rt staticlib script >&2
+
+.DELETE_ON_ERROR:
+.PHONY: run test check oracle compare replay

@@ -2,7 +2,7 @@
 
 mod draft;
 mod kinds;
-mod odd;
+pub(crate) mod odd;
 mod random;
 
 use crate::run::{OUTPUT_LIMIT, answer_and_length, run};
@@ -14,6 +14,14 @@ use random::Random;
 pub struct Case {
     pub script: Vec<u8>,
     pub out_len: usize,
+}
+
+impl Case {
+    /// The same script with another buffer.
+    pub fn with_room(&self, out_len: usize) -> Self {
+        let script = self.script.clone();
+        Case { script, out_len }
+    }
 }
 
 /// A kind of script, and how many of a thousand cases are of it. The short ones are many.
@@ -72,8 +80,17 @@ fn out_len(random: &mut Random, script: &[u8]) -> usize {
     }
 }
 
+/// Short buffers for the script of the case of this number: one that its whole output just fits,
+/// one that lacks a byte, and one that ends anywhere.
+pub fn short_rooms(seed: u64, index: u64, script: &[u8]) -> [usize; 3] {
+    let whole = written(script);
+    // Not the numbers that the case itself is made from.
+    let shorter = Random::new(!seed, index).below(whole + 1);
+    [whole, whole.saturating_sub(1), shorter]
+}
+
 /// The bytes a script writes where it has all the room there is.
-fn written(script: &[u8]) -> usize {
+pub fn written(script: &[u8]) -> usize {
     let mut out = [0; OUTPUT_LIMIT];
     let (_, written) = answer_and_length(run(script, &mut out));
     written

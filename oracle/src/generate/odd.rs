@@ -13,7 +13,7 @@ const NO_LETTERS: &[u8] = b"HIJKLOPQRTVY?!#-+0 \t\r\0\x7f\x80\xff";
 
 /// Spellings at the edges of what is a number. Some of them are good in some places:
 /// `-0` and 2147483647 as N's weight, 4294967295 everywhere else.
-const NUMBERS: [&str; 32] = [
+pub const NUMBERS: [&str; 32] = [
     "",
     "-",
     "--1",
