@@ -4,10 +4,10 @@ use mathlib.Core.Path.{_≡_, refl, sym, ap, ap₂, _∙_}
 use mathlib.Core.Bool.{true, false}
 use mathlib.Core.List.{List, [], map}
 use native.Mathlib.Omega.{arith}
-use borrow.Author.Tests.{lt-ltb, le-leb, lt-leb}
+use borrow.Author.Tests.{lt-ltb, le-ltb, le-leb, lt-leb}
 use lib.IntN.{ℤ, pos}
 use lib.ListN.{length, getD, set, length-append, length-map}
-use Rattle.index.specs.declared.Refusal.the-variants.{Broken, Short}
+use Rattle.index.specs.declared.Refusal.the-variants.{NoNode, Broken, Short}
 use Rattle.tables.specs.Net.{Net, net, fits, nodeCell}
 use Rattle.tables.specs.Rows.{nodeRow, vacantNode, headsWith, withNode}
 use Rattle.tables.specs.Answers.{out, done, refused, onto}
@@ -97,6 +97,11 @@ pub closable-so : (g : Net) (a rows : ℕ) → checked g ≡ Checked·.Accepted 
 closable-so g a rows c l =
     let S = accepted-sound g rows c in
     record { fit = S .0; lists = lists g; sound = S .1; node = l }
+
+-- a node that is not there is refused
+pub no-node : (g : Net) (a : ℕ) (I : List ℕ) → fits g ≡ true → g .n ≤ a → out (refused NoNode (pos 0, 0, 0)) (g, I) ≡ removeNode g a I
+unfolding removeNode
+no-node g a I f l = rw (f, le-ltb a (g .n) l)
 
 -- past the guards
 module _ (g : Net) (a : ℕ) (I : List ℕ) (f : fits g ≡ true) (l : a < g .n) where

@@ -8,7 +8,7 @@ use native.Mathlib.Nat.{zero-add}
 use borrow.Author.Tests.{le-leb, lt-leb, eq-eqb}
 use lib.IntN.{ℤ, pos}
 use lib.ListN.{length}
-use Rattle.index.specs.declared.Refusal.the-variants.{Broken, Short}
+use Rattle.index.specs.declared.Refusal.the-variants.{Tables, Broken, Short}
 use Rattle.index.specs.Index.{END}
 use Rattle.tables.specs.Net.{Net, net, withCounts, fits, nodeCells, edgeCells}
 use Rattle.tables.specs.Answers.{Out, out, done, refused}
@@ -45,6 +45,10 @@ module _ (g : Net) (bytes : List ℕ) where
   unfolding readOne
   read-settled {n} {m} p q h k i j l o =
       rw (← p, ← q, le-leb _ _ h, le-leb _ _ k, eq-eqb _ _ (j ∙ i)) (o ∙ ap settled (l ∙ counts-free g bytes n m n m))
+
+  pub not-lent : fits g ≡ false → out (refused Tables tt) g ≡ imageRead g bytes
+  unfolding imageRead
+  not-lent f = rw f
 
   pub read-on : {o : Out Unit Net} {v : ℕ} → fits g ≡ true → headBytes ≤ length bytes → marked bytes ≡ true → v ≡ versionIn bytes → v ≡ version
       → o ≡ readOne g bytes → o ≡ imageRead g bytes

@@ -1,12 +1,13 @@
--- The clauses of `seek`, each under the facts that choose it; `link` is what stands at the spot s. Assumes nothing.
+-- The clauses of `seek`, each under the facts that choose it; `link` is what stands at the spot s. Where a search starts: `seek-starts`. Assumes nothing.
 use Prim.Native.Nat.{ℕ, zero, suc, _+_, _-_, _≤_, _<_}
 use mathlib.Core.Path.{_≡_}
+use native.Mathlib.Nat.{sub-zero}
 use native.Mathlib.Omega.{arith}
 use borrow.Author.Tests.{lt-ltb, le-ltb, eq-eqb, ne-eqb}
 use Rattle.lists.specs.declared.Spot.{Spot}
-use Rattle.lists.specs.declared.Spot.the-variants.{After}
+use Rattle.lists.specs.declared.Spot.the-variants.{Head, After}
 use Rattle.links.specs.declared.Search.the-variants.{At, Lost}
-use Rattle.links.specs.Links.{seek}
+use Rattle.links.specs.Links.{seek, searched}
 
 module _ (lk : Spot → ℕ) (m e : ℕ) (s : Spot) (rows : ℕ) {link : ℕ} (is : lk s ≡ link) where
   pub seek-found : (left : ℕ) → link ≡ e → seek lk m e left s rows ≡ At s rows
@@ -34,3 +35,8 @@ module _ (lk : Spot → ℕ) (m e : ℕ) (s : Spot) (rows : ℕ) {link : ℕ} (i
   seek-step h p q =
       let z : m - rows ≡ suc (m - (rows + 1)) = omega arith in
       rw z (seek-on (m - (rows + 1)) h p)
+
+-- from the head on, with no row read
+pub seek-starts : (lk : Spot → ℕ) (node : ℕ → ℕ) (n m e : ℕ) → node e < n → seek lk m e (m - 0) (Head (node e)) 0 ≡ searched lk node n m e
+unfolding searched
+seek-starts lk node n m e l = rw (lt-ltb (node e) n l, sub-zero)

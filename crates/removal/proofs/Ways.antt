@@ -1,14 +1,14 @@
 -- The ways in which the removal ends, in plain columns: what the code leaves is what the definition says. Assumes nothing.
-use Prim.Native.Nat.{ℕ, _+_, _-_, _<_}
+use Prim.Native.Nat.{ℕ, _+_, _-_, _≤_, _<_}
 use mathlib.Core.Path.{_≡_, refl, sym, ap, _∙_}
 use mathlib.Core.Bool.{true}
 use mathlib.Core.List.{List, []}
 use native.Mathlib.Omega.{arith}
-use borrow.Author.Tests.{eq-eqb, ne-eqb, lt-ltb}
+use borrow.Author.Tests.{eq-eqb, ne-eqb, lt-ltb, le-ltb}
 use lib.IntN.{ℤ}
 use lib.ListN.{getD, set}
 use lib.Seq.{set-set, set-comm, set-getD}
-use Rattle.index.specs.declared.Refusal.the-variants.{Broken}
+use Rattle.index.specs.declared.Refusal.the-variants.{NoEdge, Broken}
 use Rattle.index.specs.Index.{END}
 use Rattle.tables.specs.Net.{Net, net, fits, nodeCell, edgeCell}
 use Rattle.tables.specs.Rows.{edgeRow, vacantEdge, linksWith, endsWith, withEdge}
@@ -72,12 +72,12 @@ undone : (W : List ℤ) (H R L E : List ℕ) (n m e : ℕ) (s t : Spot) → link
 unfolding bypassed led
 undone W H R L E n m e s t p q = rw (heads-back H L (cell L 0 e) (cell L 1 e) e s t p q, links-back H L (cell L 0 e) (cell L 1 e) e s t p q)
 
--- e is found at s and t, and bypassed: H₁ and L₁
-module _ (W : List ℤ) (H R L E : List ℕ) (n m e : ℕ) (s t : Spot) (rows : ℕ) (H₁ L₁ : List ℕ)
-    (p : H₁ ≡ headsAt 1 t (cell L 1 e) (headsAt 0 s (cell L 0 e) H)) (q : L₁ ≡ linksAt 1 t (cell L 1 e) (linksAt 0 s (cell L 0 e) L)) where
+-- e, which is row x, is found at s and t, and bypassed: H₁ and L₁
+module _ (W : List ℤ) (H R L E : List ℕ) (n m e : ℕ) (s t : Spot) (rows : ℕ) (H₁ L₁ : List ℕ) (x : ℕ) (is-row : x ≡ e)
+    (p : H₁ ≡ headsAt 1 t (cell L 1 x) (headsAt 0 s (cell L 0 x) H)) (q : L₁ ≡ linksAt 1 t (cell L 1 x) (linksAt 0 s (cell L 0 x) L)) where
   bypassed-is : net W H₁ R L₁ E n m ≡ bypassed (net W H R L E n m) e s t
   unfolding bypassed
-  bypassed-is = led-is W H H₁ R L L₁ E n m s t (cell L 0 e) (cell L 1 e) p q
+  bypassed-is = led-is W H H₁ R L L₁ E n m s t (cell L 0 x) (cell L 1 x) p q ∙ ap (λ y. led (net W H R L E n m) s t (cell L 0 y) (cell L 1 y)) is-row
 
   -- it is the last row
   pub last-goes : (at : ℕ) (R₂ L₂ E₂ : List ℕ) → at ≡ e → e ≡ m - 1 → R₂ ≡ set R e 0 → L₂ ≡ linksWith L₁ e vacantEdge → E₂ ≡ endsWith E e vacantEdge
@@ -101,6 +101,11 @@ module _ (g : Net) (e : ℕ) where
       → o ≡ gone g e (g .m - 1) s t rows → o ≡ takenOut g e
   unfolding takenOut
   is-found s t rows o z is = rw z is
+
+  -- an edge that is not there is refused
+  pub no-edge : fits g ≡ true → g .m ≤ e → out (refused NoEdge (0, 0, 0)) g ≡ removeEdge g e
+  unfolding removeEdge
+  no-edge f l = rw (f, le-ltb e (g .m) l)
 
   -- past the guards the call is its part
   pub past-guards : (o : Gone) → fits g ≡ true → e < g .m → o ≡ takenOut g e → o ≡ removeEdge g e

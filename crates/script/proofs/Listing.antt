@@ -82,53 +82,31 @@ closed-holds g a items =
     tested Closes (accepted (checked g)) _ _ (omega arith) (λ c.
     tested Closes (leb (length (around g Weight a)) (length items)) _ _ (omega arith) (λ r. table-holds (stripped g a .given) items))))
 
--- the commands that give items
-module _ (g : Net) (a : ℕ) (items : List ℕ) where
-  neighbors-listed : neighborsLine g a items .reply .items ≤ length (neighborsLine g a items .after)
-  unfolding neighborsLine neighbors
-  neighbors-listed = reply-items 87 counted (neighbors g a items .answer) (walk-holds g a (around g Far a) items)
-
-  edges-mut-listed : edgesMutLine g a items .reply .items ≤ length (edgesMutLine g a items .after)
-  unfolding edgesMutLine edgesMut
-  edges-mut-listed = reply-items 77 counted (edgesMut g a items .answer) (walk-holds g a (picks g 1 Every a ++ picks g 0 Every a) items)
-
-  edges-between-listed : (b : ℕ) → edgesBetweenLine g a b items .reply .items ≤ length (edgesBetweenLine g a b items .after)
-  unfolding edgesBetweenLine edgesBetween
-  edges-between-listed b =
-      let xs = picks g 0 (To (record { 0 = b })) a ++ picks g 1 (ToNot (record { 0 = b }) (record { 0 = a })) a in
-      reply-items 66 counted (edgesBetween g a b items .answer) (walk-holds g a xs items)
-
-  remove-node-listed : removeNodeLine g a items .reply .items ≤ length (removeNodeLine g a items .after .1)
-  unfolding removeNodeLine
-  remove-node-listed = reply-items 68 nodeGone (removeNode g a items .answer) (closed-holds g a items)
-
-edges-listed : (g : Net) (a : ℕ) (t : Tables3) → edgesLine g a t .reply .items ≤ length (edgesLine g a t .after .numbers)
-unfolding edgesLine edges
-edges-listed g a t =
-    let items : Item → List ℕ = λ item. around g item a in
-    reply-items 71 counted (edges g a t .answer) (walked-so GivenThree g a t (giveThree items t) (λ x. omega arith) (three-hold items t))
-
 -- every command
 abbrev Lists : Replied State → Type 0
 Lists r = r .reply .items ≤ length (r .after .tables .numbers)
 
 step-listed : (letter : ℕ) (o : Numbers) (s : State) → Lists (step letter o s)
-unfolding addNodeLine addEdgeLine updateEdgeLine findEdgeLine removeEdgeLine sumAroundLine checkLine clearEdgesLine clearLine
+unfolding addNodeLine addEdgeLine updateEdgeLine findEdgeLine removeEdgeLine removeNodeLine neighborsLine edgesLine edgesMutLine edgesBetweenLine sumAroundLine checkLine clearEdgesLine clearLine neighbors edges edgesMut edgesBetween
 step-listed letter o s =
     let g = s .network in
     let t = s .tables .numbers in
+    let a = o .a in
+    let b = o .b in
+    let around-a : Item → List ℕ = λ item. around g item a in
+    let between = picks g 0 (To (record { 0 = b })) a ++ picks g 1 (ToNot (record { 0 = b }) (record { 0 = a })) a in
     step-ways Lists o s letter
     (reply-items 78 oneNumber (addNode g (o .w) .answer) (omega arith))
-    (reply-items 69 oneNumber (addEdge g (o .a) (o .b) (o .c) .answer) (omega arith))
-    (reply-items 85 oneNumber (updateEdge g (o .a) (o .b) (o .c) .answer) (omega arith))
-    (reply-items 70 oneNumber (findEdge g (o .a) (o .b)) (omega arith))
-    (reply-items 88 edgeGone (removeEdge g (o .a) .answer) (omega arith))
-    (remove-node-listed g (o .a) t)
-    (neighbors-listed g (o .a) t)
-    (edges-listed g (o .a) (s .tables))
-    (edges-mut-listed g (o .a) t)
-    (edges-between-listed g (o .a) t (o .b))
-    (reply-items 65 oneValue (sumAround g (o .a)) (omega arith))
+    (reply-items 69 oneNumber (addEdge g a b (o .c) .answer) (omega arith))
+    (reply-items 85 oneNumber (updateEdge g a b (o .c) .answer) (omega arith))
+    (reply-items 70 oneNumber (findEdge g a b) (omega arith))
+    (reply-items 88 edgeGone (removeEdge g a .answer) (omega arith))
+    (reply-items 68 nodeGone (removeNode g a t .answer) (closed-holds g a t))
+    (reply-items 87 counted (neighbors g a t .answer) (walk-holds g a (around-a Far) t))
+    (reply-items 71 counted (edges g a (s .tables) .answer) (walked-so GivenThree g a (s .tables) (giveThree around-a (s .tables)) (λ x. omega arith) (three-hold around-a (s .tables))))
+    (reply-items 77 counted (edgesMut g a t .answer) (walk-holds g a (picks g 1 Every a ++ picks g 0 Every a) t))
+    (reply-items 66 counted (edgesBetween g a b t .answer) (walk-holds g a between t))
+    (reply-items 65 oneValue (sumAround g a) (omega arith))
     (reply-items 83 rowsRead (toldChecked (checked g)) (omega arith))
     (reply-items 67 nothing (clearEdges g .answer) (omega arith))
     (reply-items 90 nothing (clear g .answer) (omega arith))

@@ -1,11 +1,10 @@
--- `remove_node` meets its contract: each `return` rewrites with the tests that led there. Assumes nothing.
+-- `remove_node` meets its contract: each `return` is what the definition gives past the tests that led there. Assumes nothing.
 use mathlib.Core.Path.{_≡_, sym, ap, _∙_}
 use native.Mathlib.Omega.{arith}
-use borrow.Author.Tests.{le-ltb}
 use Rattle.tables.proofs.Laws.{misfit, fitted}
 use Rattle.sound.specs.Check.{accepted}
 use Rattle.closing.specs.Closing.{removeNode}
-use Rattle.closing.proofs.Closes.{closable-so, not-sound, is-sound}
+use Rattle.closing.proofs.Closes.{closable-so, no-node, not-sound, is-sound}
 use borrow.Author.Needs.{needs}
 use Rattle.closing.proofs.remove_node.Statement.{statement}
 use Rattle.closing.proofs.remove_node.Tie as tie
@@ -15,8 +14,7 @@ unfolding removeNode
 returns c = rw (misfit (c .before .fits2 .ensures) (c .if1 .taken))
 
 returns-2 : tie.Need-returns-2
-unfolding removeNode
-returns-2 c = rw (fitted (c .before .before .before .fits2 .ensures) (c .before .before .if1 .left), le-ltb _ _ (c .if2 .taken))
+returns-2 c = no-node _ _ _ (fitted (c .before .before .before .fits2 .ensures) (c .before .before .if1 .left)) (c .if2 .taken)
 
 close-requires : tie.Need-close-requires
 close-requires c κs = closable-so _ _ _ (sym (c .before .before .before .before .before .before .before .before .before .before .check .ensures) ∙ c .before .before .before .before .before .before .before .before .enum-told .given .1) (c .before .before .before .before .before .before .before .before .before .before .before .before .before .before .before .before .if2 .left)

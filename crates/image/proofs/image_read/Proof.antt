@@ -4,13 +4,12 @@ use borrow.Author.Tests.{le-leb, lt-leb, ne-eqb}
 use borrow.Author.Needs.{needs}
 use Rattle.tables.proofs.Laws.{misfit, fitted, fitting}
 use Rattle.image.specs.Calls.{imageRead}
-use Rattle.image.proofs.Served.{read-on}
+use Rattle.image.proofs.Served.{not-lent, read-on}
 use Rattle.image.proofs.image_read.Statement.{statement}
 use Rattle.image.proofs.image_read.Tie as tie
 
 returns : tie.Need-returns
-unfolding imageRead
-returns c = rw (misfit (c .before .fits2 .ensures) (c .if1 .taken))
+returns c = not-lent _ _ (misfit (c .before .fits2 .ensures) (c .if1 .taken))
 
 returns-2 : tie.Need-returns-2
 unfolding imageRead

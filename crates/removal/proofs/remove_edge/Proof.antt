@@ -1,9 +1,8 @@
--- `remove_edge` meets its contract: each `return` rewrites with the tests that led there. Assumes nothing.
+-- `remove_edge` meets its contract: each `return` is what the definition gives past the tests that led there. Assumes nothing.
 use native.Mathlib.Omega.{arith}
-use borrow.Author.Tests.{le-ltb}
 use Rattle.tables.proofs.Laws.{misfit, fitted, fitting}
 use Rattle.removal.specs.Removal.{removeEdge}
-use Rattle.removal.proofs.Ways.{past-guards}
+use Rattle.removal.proofs.Ways.{no-edge, past-guards}
 use borrow.Author.Needs.{needs}
 use Rattle.removal.proofs.remove_edge.Statement.{statement}
 use Rattle.removal.proofs.remove_edge.Tie as tie
@@ -13,8 +12,7 @@ unfolding removeEdge
 returns c = rw (misfit (c .before .fits2 .ensures) (c .if1 .taken))
 
 returns-2 : tie.Need-returns-2
-unfolding removeEdge
-returns-2 c = rw (fitted (c .before .before .before .fits2 .ensures) (c .before .before .if1 .left), le-ltb _ _ (c .if2 .taken))
+returns-2 c = no-edge _ _ (fitted (c .before .before .before .fits2 .ensures) (c .before .before .if1 .left)) (c .if2 .taken)
 
 take-out-requires : tie.Need-take-out-requires
 take-out-requires c κs =

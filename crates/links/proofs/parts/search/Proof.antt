@@ -2,13 +2,12 @@
 -- the whole search gives. Assumes nothing.
 use Prim.Native.Nat.{_+_, _*_, _-_, _^_, _≤_, _<_}
 use mathlib.Core.Path.{_≡_, refl, sym, _∙_}
-use native.Mathlib.Nat.{sub-zero}
 use native.Mathlib.Omega.{arith}
 use borrow.Author.Needs.{needs}
-use borrow.Author.Tests.{lt-ltb, le-ltb}
+use borrow.Author.Tests.{le-ltb}
 use Rattle.lists.specs.Walk.{cell, linkIn}
 use Rattle.links.specs.Links.{seek, searched}
-use Rattle.links.proofs.Seeks.{seek-found, seek-spent, seek-past, seek-step}
+use Rattle.links.proofs.Seeks.{seek-found, seek-spent, seek-past, seek-step, seek-starts}
 use Rattle.links.proofs.parts.search.Statement.{statement}
 use Rattle.links.proofs.parts.search.Tie as tie
 
@@ -25,14 +24,13 @@ unfolding searched
 returns c = rw (le-ltb _ _ (rw (c .before .before .before .index .ensures) at (c .if1 .taken)))
 
 loop-holds : tie.Need-loop-holds Inv-loop μ-loop
-unfolding searched
 loop-holds c =
     let q = c .before .before .before .before .before .index .ensures in
     rw (c .before .index2 .ensures, q) (
       omega arith,
       c .shared-slice-known5 .given _ .fits,
       refl,
-      rw (lt-ltb _ _ (rw q at (c .before .before .if1 .left)), sub-zero),
+      seek-starts _ _ _ _ _ (rw q at (c .before .before .if1 .left)),
     )
 
 loop-again : tie.Need-loop-again Inv-loop μ-loop

@@ -28,7 +28,7 @@ returns c =
     let h = c .before .before .before .before .before .before .write-edge .ensures in
     let r = c .before .before .before .before .before .before .before .before .index3 .ensures in
     let z = c .before .before .before .before .before .before .before .vacant .ensures in
-    last-goes W _ _ _ _ _ _ _ _ _ _ _ _ (rw q at (f .heads-are)) (rw q at (f .links-are)) _ _ _ _ (c .before .before .before .before .before .before .before .before .before .before .before .before .before .index2 .ensures) (c .before .before .before .before .before .before .before .before .before .before .before .before .before .before .if1 .taken) (rw (r, z) at (h .registers-are)) (rw (r, z) at (h .links-are)) (rw (r, z) at (h .ends-are))
+    last-goes W _ _ _ _ _ _ _ _ _ _ _ _ _ q (f .heads-are) (f .links-are) _ _ _ _ (c .before .before .before .before .before .before .before .before .before .before .before .before .before .index2 .ensures) (c .before .before .before .before .before .before .before .before .before .before .before .before .before .before .if1 .taken) (rw (r, z) at (h .registers-are)) (rw (r, z) at (h .links-are)) (rw (r, z) at (h .ends-are))
 
 fill-gap-requires : tie.Need-fill-gap-requires
 fill-gap-requires c κs =
@@ -52,7 +52,7 @@ returns-2 c =
     let f = c .before .before .before .before .before .before .before .before .before .before .before .before .before .before .before .before .before .before .before .before .lead .ensures in
     let q = c .before .before .before .before .before .before .before .before .before .before .before .before .before .before .before .before .before .before .before .before .before .before .before .before .before .index .ensures in
     let p = c .before .before .before .before .before .before .before .before .before .before .before .before .before .before .before .before .before .before .before .before .before .before .before .before .before .before .before .before .before .before .before .pre in
-    gap-filled W _ _ _ _ _ _ _ _ _ _ _ _ (rw q at (f .heads-are)) (rw q at (f .links-are)) _ (c .before .before .before .before .before .before .before .before .before .before .before .before .before .before .if1 .left) (p .outgoing-leads) (p .incoming-leads) (c .before .before .before .before .before .before .before .before .fill-gap .ensures W)
+    gap-filled W _ _ _ _ _ _ _ _ _ _ _ _ _ q (f .heads-are) (f .links-are) _ (c .before .before .before .before .before .before .before .before .before .before .before .before .before .before .if1 .left) (p .outgoing-leads) (p .incoming-leads) (c .before .before .before .before .before .before .before .before .fill-gap .ensures W)
 
 pub bypass-spec : {M : Type 1} → statement M
 bypass-spec =

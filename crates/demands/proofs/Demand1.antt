@@ -1,0 +1,218 @@
+-- Demand 1, `demand-1`, by one law: a call is its tests, each with its refusal, and then it is served. Assumes nothing.
+use Prim.{tt}
+use Prim.Native.Nat.{ℕ, _-_}
+use mathlib.Core.Path.{_≡_, refl, ap}
+use mathlib.Core.Logic.{_⊎_, inl, inr}
+use mathlib.Core.Bool.{Bool, true, false, cond, not, _&&_}
+use mathlib.Core.List.{List, [], _∷_, _++_}
+use native.Mathlib.Omega.{arith}
+use borrow.Author.Tests.{eqb-true, leb-true}
+use lib.Dec.{eqb, ltb, leb}
+use lib.ListN.{length, getD, take}
+use Rattle.index.specs.declared.EdgeDirection.{EdgeDirection}
+use Rattle.index.specs.declared.EdgeDirection.the-variants.{Outgoing, Incoming}
+use Rattle.index.specs.declared.Refusal.the-variants.{Tables, Broken}
+use Rattle.index.specs.Index.{isEnd, numberOf}
+use Rattle.tables.specs.Net.{Net, fits, nodeCell, edgeCell}
+use Rattle.tables.specs.Answers.{Out, out, refused, unless, give}
+use Rattle.tables.proofs.Laws.{both}
+use Rattle.lookups.specs.Lookups.{nodeWeight, edgeWeight, edgeEndpoints, firstEdge, nextEdge, setNodeWeight, setEdgeWeight}
+use Rattle.rows.specs.Calls.{addNode, addEdge, allEdgeWeights, clearEdges, clear}
+use Rattle.lists.specs.Chain.{In}
+use Rattle.lists.specs.declared.Spot.{Spot}
+use Rattle.lists.specs.declared.Pick.the-variants.{Every, To, NotTo, ToNot}
+use Rattle.lists.specs.declared.Item.the-variants.{Number, Far, Weight}
+use Rattle.lists.specs.Walk.{takenFrom, stopFrom, picks, broken, around}
+use Rattle.walks.specs.Legs.{roomFor}
+use Rattle.walks.specs.Walks.{walked, neighbors, edgeWeights, edgesBetween, edgesMut, edges}
+use Rattle.find.specs.declared.Sought.{Sought}
+use Rattle.find.specs.declared.Sought.the-variants.{Row, Missing, Endless}
+use Rattle.find.specs.Find.{sought, on, findEdge, containsEdge, updateEdge}
+use Rattle.walker.specs.declared.Walker.{Walker}
+use Rattle.walker.specs.Steps.{begin, incomingStep, step}
+use Rattle.walker.specs.Sums.{present, sumAround}
+use Rattle.sound.specs.declared.Walked.{Walked}
+use Rattle.sound.specs.declared.Walked.the-variants.{Read, FaultAt}
+use Rattle.sound.specs.declared.Checked.the-variants as Checked·
+use Rattle.sound.specs.Check.{way, verdict, checked, accepted, toldChecked}
+use Rattle.links.specs.declared.Located.{Located}
+use Rattle.links.specs.declared.Located.the-variants as Located·
+use Rattle.removal.specs.Removal.{Gone, onPlace, placeOf, bypassed, lastMoved, gone, takenOut, removeEdge}
+use Rattle.closing.specs.Closing.{closedIfRoom, removeNode}
+use Rattle.layout.specs.Layout.{version, headBytes, imageLength, marked, versionIn, nodesIn, edgesIn}
+use Rattle.imagerows.specs.Image.{imageOf, loaded}
+use Rattle.sound.specs.Check.{isSound}
+use Rattle.image.specs.Calls.{imageWrite, settled, readOne, imageRead, vacated}
+use Rattle.image.proofs.Vacated.{loaded-vacated}
+use Rattle.dispatch.specs.Step.{among}
+use Rattle.script.proofs.Limits.{run-number, run-whole}
+use Rattle.script.proofs.Sayings.{run-told}
+use Rattle.demands.specs.Demand1.{ServedOr, served, refused-by, Refuses, Tells, stepRefusal, loadRefusal, Demand1}
+
+-- a number that is found in a list stands in it
+in-list : (x : ℕ) (xs : List ℕ) → among x xs ≡ true → In x xs
+in-list x [] h = absurd (let z : _≡_ {A = ℕ} 0 1 = cc in omega arith)
+in-list x (y ∷ ys) h = go (eqb x y) refl (λ k. in-list x ys k) h
+  where
+    go : (b : Bool) → eqb x y ≡ b → (among x ys ≡ true → In x ys) → cond b true (among x ys) ≡ true → (x ≡ y) ⊎ In x ys
+    go true e later k = inl (eqb-true x y e)
+    go false e later k = inr (later k)
+
+module _ {X : Type 0} {number : X → ℕ} {numbers : List ℕ} {refusal : ℕ → X} where
+  by-number : (why : ℕ) → among why numbers ≡ true → ServedOr number numbers refusal (refusal why)
+  by-number why h = refused-by why (in-list why numbers h) refl
+
+  -- a test fails or passes
+  passing : (b : Bool) {x y : X} → ServedOr number numbers refusal x → (b ≡ true → ServedOr number numbers refusal y) → ServedOr number numbers refusal (unless b x y)
+  passing true p q = q refl
+  passing false p q = p
+
+  passes-or : (b : Bool) {x y : X} → ServedOr number numbers refusal x → ServedOr number numbers refusal y → ServedOr number numbers refusal (unless b x y)
+  passes-or b p q = passing b p (λ t. q)
+
+  -- a test with its refusal
+  if-not : (b : Bool) (why : ℕ) {rest : X} → among why numbers ≡ true → ServedOr number numbers refusal rest
+      → ServedOr number numbers refusal (unless b (refusal why) rest)
+  if-not b why h p = passes-or b (by-number why h) p
+
+-- an edge is added by `add_edge` and by `update_edge`, which has more numbers
+adding : {numbers : List ℕ} (g : Net) (a b w : ℕ) → among 1 numbers ≡ true → among 2 numbers ≡ true → among 3 numbers ≡ true → Refuses numbers 0 g (addEdge g a b w)
+unfolding addEdge
+adding g a b w one two three =
+    if-not (fits g) 1 one (if-not (ltb (g .m) (length (g .registers))) 2 two (if-not (ltb a (g .n) && ltb b (g .n)) 3 three (served refl)))
+
+-- items are given, or 7
+giving : {numbers : List ℕ} (items table : List ℕ) → among 7 numbers ≡ true → Refuses numbers 0 table (give items table)
+giving items table h = if-not (leb (length items) (length table)) 7 h (served refl)
+
+-- a walk settles its lists before
+walking : {S : Type 0} (g : Net) (a : ℕ) (table : S) (given : Out ℕ S) → Refuses (1 ∷ 6 ∷ 7 ∷ []) 0 table given → Refuses (1 ∷ 6 ∷ 7 ∷ []) 0 table (walked g a table given)
+walking g a table given p =
+    if-not (fits g) 1 refl (passes-or (ltb a (g .n)) (served refl) (if-not (not (broken g 0 a) && not (broken g 1 a)) 6 refl p))
+
+-- what a search comes to
+seeking : {X : Type 0} {number : X → ℕ} {numbers : List ℕ} {refusal : ℕ → X} (s : Sought) (found : ℕ → X) (missing endless : X)
+    → ((e : ℕ) → number (found e) ≡ 0) → ServedOr number numbers refusal missing → ServedOr number numbers refusal endless
+    → ServedOr number numbers refusal (on s found missing endless)
+seeking (Row e k) found missing endless p q r = served (p (e .0))
+seeking Missing found missing endless p q r = q
+seeking Endless found missing endless p q r = r
+
+-- a step along the incoming list
+incoming-step : (g : Net) (w : Walker) (xs : List ℕ)
+    → ServedOr (λ o. o .answer .number) (1 ∷ 6 ∷ 5 ∷ []) (stepRefusal g w) (incomingStep g w xs (stopFrom (g .links) (g .m) 1 (w .incoming .0)))
+incoming-step g w (e ∷ es) = served refl
+incoming-step g w [] = passes-or (ltb (stopFrom (g .links) (g .m) 1 (w .incoming .0)) (g .m)) (by-number 5 refl) (by-number 6 refl)
+
+-- what the check tells
+checked-told : (b : Bool) (w v : Walked)
+    → let told = toldChecked (unless b (Checked·.Refused Tables) (verdict w v)) in
+    Tells (1 ∷ []) (0, 0, 0) told ⊎ ((d : EdgeDirection) × (a : ℕ) × (told ≡ refused Broken (0, numberOf d, a)))
+checked-told false w v = inl (by-number 1 refl)
+checked-told true (FaultAt a) v = inr (Outgoing, a, refl)
+checked-told true (Read q) (FaultAt a) = inr (Incoming, a, refl)
+checked-told true (Read q) (Read r) = inl (served refl)
+
+-- what the searches for an edge come to
+locating : {g : Net} {numbers : List ℕ} (place : Located) (found : Spot → Spot → ℕ → Gone) → among 6 numbers ≡ true
+    → ((s t : Spot) (rows : ℕ) → Refuses numbers (0, 0, 0) g (found s t rows)) → Refuses numbers (0, 0, 0) g (onPlace place found (out (refused Broken (0, 0, 0)) g))
+locating (Located·.At s t rows) found h p = p s t rows
+locating Located·.Lost found h p = by-number 6 h
+
+-- a load that is refused 6 has written its rows, and empties all
+load-broken : (g : Net) (bytes : List ℕ) → fits g ≡ true → leb (nodesIn bytes) (length (g .weights)) && leb (edgesIn bytes) (length (g .registers)) ≡ true
+    → ServedOr (λ o. o .answer .number) (1 ∷ 8 ∷ 9 ∷ 2 ∷ 6 ∷ []) (loadRefusal g) (out (refused Broken tt) (vacated (loaded g bytes (nodesIn bytes) (edgesIn bytes))))
+load-broken g bytes f t =
+    let n = nodesIn bytes in
+    let m = edgesIn bytes in
+    let rows = both (leb n (length (g .weights))) (leb m (length (g .registers))) t in
+    refused-by 6 (in-list 6 (1 ∷ 8 ∷ 9 ∷ 2 ∷ 6 ∷ []) refl)
+    (ap (out (refused Broken tt)) (loaded-vacated g bytes n m f (leb-true _ _ (rows .0)) (leb-true _ _ (rows .1))))
+
+-- 0, 1 or 7, as members of a list
+one-of-three : {x : ℕ} → (x ≡ 0) ⊎ ((x ≡ 1) ⊎ (x ≡ 7)) → In x (0 ∷ 1 ∷ 7 ∷ [])
+one-of-three (inl p) = inl p
+one-of-three (inr (inl p)) = inr (inl p)
+one-of-three (inr (inr p)) = inr (inr (inl p))
+
+pub demand-1 : Demand1
+unfolding nodeWeight edgeWeight edgeEndpoints firstEdge nextEdge setNodeWeight setEdgeWeight addNode allEdgeWeights clearEdges clear neighbors edgeWeights edgesBetween edgesMut edges findEdge containsEdge updateEdge begin step sumAround checked removeEdge takenOut gone lastMoved removeNode closedIfRoom imageWrite imageRead readOne settled
+demand-1 =
+    record {
+      node-weight = λ g a. if-not (fits g) 1 refl (if-not (ltb a (g .n)) 3 refl (served refl));
+      edge-weight = λ g e. if-not (fits g) 1 refl (if-not (ltb e (g .m)) 4 refl (served refl));
+      edge-endpoints = λ g e. if-not (fits g) 1 refl (if-not (ltb e (g .m)) 4 refl (served refl));
+      first-edge =
+          λ g a d.
+          if-not (fits g) 1 refl
+          (if-not (ltb a (g .n)) 3 refl (if-not (not (isEnd (getD (g .heads) (nodeCell a (numberOf d)) 0))) 5 refl (served refl)));
+      next-edge =
+          λ g e d.
+          if-not (fits g) 1 refl
+          (if-not (ltb e (g .m)) 4 refl (if-not (not (isEnd (getD (g .links) (edgeCell e (numberOf d)) 0))) 5 refl (served refl)));
+      set-node-weight = λ g a w. if-not (fits g) 1 refl (if-not (ltb a (g .n)) 3 refl (served refl));
+      set-edge-weight = λ g e w. if-not (fits g) 1 refl (if-not (ltb e (g .m)) 4 refl (served refl));
+      add-node = λ g w. if-not (fits g) 1 refl (if-not (ltb (g .n) (length (g .weights))) 2 refl (served refl));
+      add-edge = λ g a b w. adding g a b w refl refl refl;
+      all-edge-weights = λ g items. if-not (fits g) 1 refl (giving (take (g .m) (g .registers)) items refl);
+      clear-edges = λ g. if-not (fits g) 1 refl (served refl);
+      clear-all = λ g. if-not (fits g) 1 refl (served refl);
+      neighbors-of = λ g a items. walking g a items _ (giving (around g Far a) items refl);
+      edge-weights = λ g a items. walking g a items _ (giving (around g Weight a) items refl);
+      edges-between =
+          λ g a b items.
+          walking g a items _ (giving (picks g 0 (To (record { 0 = b })) a ++ picks g 1 (ToNot (record { 0 = b }) (record { 0 = a })) a) items refl);
+      edges-mut = λ g a items. walking g a items _ (giving (picks g 1 Every a ++ picks g 0 Every a) items refl);
+      edges-of = λ g a t. walking g a t _ (if-not (roomFor (length (around g Number a)) t) 7 refl (served refl));
+      find-edge =
+          λ g a b.
+          if-not (fits g) 1 refl
+          (if-not (ltb a (g .n)) 3 refl (seeking (sought g a b) _ _ _ (λ e. refl) (by-number 5 refl) (by-number 6 refl)));
+      contains-edge =
+          λ g a b.
+          if-not (fits g) 1 refl
+          (passes-or (ltb a (g .n)) (served refl) (seeking (sought g a b) _ _ _ (λ e. refl) (served refl) (by-number 6 refl)));
+      update-edge =
+          λ g a b w.
+          if-not (fits g) 1 refl
+          (passes-or (ltb a (g .n)) (adding g a b w refl refl refl) (seeking (sought g a b) _ _ _ (λ e. refl) (adding g a b w refl refl refl) (by-number 6 refl)));
+      walker-new = λ g a. if-not (fits g) 1 refl (served refl);
+      walker-step =
+          λ g w.
+          if-not (fits g) 1 refl
+          (passes-or (ltb (w .outgoing .0) (g .m)) (incoming-step g w (takenFrom (g .links) (g .ends) (g .m) 1 (NotTo (w .start)) (w .incoming .0))) (served refl));
+      sum-around =
+          λ g a.
+          if-not (fits g) 1 refl
+          (if-not (ltb a (g .n)) 3 refl
+          (if-not (not (broken g 0 a) && not (broken g 1 a) && present (g .n) (around g Far a)) 6 refl (served refl)));
+      check = λ g. checked-told (fits g) (way g 0) (way g 1);
+      remove-edge =
+          λ g e.
+          if-not (fits g) 1 refl
+          (if-not (ltb e (g .m)) 4 refl
+          (locating (placeOf g e) _ refl (λ s t rows.
+          passes-or (eqb e (g .m - 1))
+          (locating (placeOf (bypassed g e s t) (g .m - 1)) _ refl (λ u v more. served refl))
+          (served refl))));
+      remove-node =
+          λ g a items.
+          if-not (fits g) 1 refl
+          (if-not (ltb a (g .n)) 3 refl
+          (if-not (accepted (checked g)) 6 refl
+          (if-not (leb (length (around g Weight a)) (length items)) 7 refl (served refl))));
+      image-write = λ g bytes. if-not (fits g) 1 refl (if-not (isSound g) 6 refl (giving (imageOf g) bytes refl));
+      image-read =
+          λ g bytes.
+          let n = nodesIn bytes in
+          let m = edgesIn bytes in
+          passing (fits g) (by-number 1 refl) (λ f.
+          if-not (leb headBytes (length bytes) && marked bytes) 8 refl
+          (if-not (eqb (versionIn bytes) version) 9 refl
+          (passing (leb n (length (g .weights)) && leb m (length (g .registers))) (by-number 2 refl) (λ t.
+          if-not (eqb (length bytes) (imageLength n m)) 8 refl
+          (passes-or (isSound (loaded g bytes n m)) (load-broken g bytes f t) (served refl))))));
+      run-told = λ script room. one-of-three (run-number script room);
+      run-lines = run-whole;
+      line-told = run-told;
+    }

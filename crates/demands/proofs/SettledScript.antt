@@ -1,0 +1,162 @@
+-- The same of a script's run and of what it is made of: its texts, its answer lines and its commands. Assumes nothing.
+use Prim.{tt}
+use mathlib.Core.Path.{ap}
+use Rattle.text.proofs as text
+use Rattle.reply.proofs as reply
+use Rattle.commands.proofs as commands
+use Rattle.dispatch.proofs as dispatch
+use Rattle.script.proofs as script
+use Rattle.demands.specs.Settles.{Settles, SettlesAll}
+use Rattle.demands.proofs.Alike.{alike, answers-alike, allColumns, nodeColumns, edgeColumns, noColumns}
+
+pub text-width : Settles text.parts.width.ended text.parts.width.Reads.Post
+text-width κs given x y p q = answers-alike (p .is) (q .is)
+
+pub text-write-number : Settles text.parts.write_number.ended text.parts.write_number.Reads.Post
+text-write-number κs given x y p q = λ i. (alike (p .ends-at) (q .ends-at) i, (alike (p .bytes-are) (q .bytes-are) i, _))
+
+pub text-write-byte : Settles text.parts.write_byte.ended text.parts.write_byte.Reads.Post
+text-write-byte κs given x y p q = λ i. (alike (p .ends-at) (q .ends-at) i, (alike (p .bytes-are) (q .bytes-are) i, _))
+
+pub text-signed-width : Settles text.parts.signed_width.ended text.parts.signed_width.Reads.Post
+text-signed-width κs given x y p q = answers-alike (p .is) (q .is)
+
+pub text-write-signed : Settles text.parts.write_signed.ended text.parts.write_signed.Reads.Post
+text-write-signed κs given x y p q = λ i. (alike (p .ends-at) (q .ends-at) i, (alike (p .bytes-are) (q .bytes-are) i, _))
+
+pub text-write-field : Settles text.parts.write_field.ended text.parts.write_field.Reads.Post
+text-write-field κs given x y p q = λ i. (alike (p .ends-at) (q .ends-at) i, (alike (p .bytes-are) (q .bytes-are) i, _))
+
+pub text-write-signed-field : Settles text.parts.write_signed_field.ended text.parts.write_signed_field.Reads.Post
+text-write-signed-field κs given x y p q = λ i. (alike (p .ends-at) (q .ends-at) i, (alike (p .bytes-are) (q .bytes-are) i, _))
+
+pub text-fields-width : Settles text.parts.fields_width.ended text.parts.fields_width.Reads.Post
+text-fields-width κs given x y p q = answers-alike (p .is) (q .is)
+
+pub text-write-fields : Settles text.parts.write_fields.ended text.parts.write_fields.Reads.Post
+text-write-fields κs given x y p q = λ i. (alike (p .ends-at) (q .ends-at) i, (alike (p .bytes-are) (q .bytes-are) i, _))
+
+pub text-read-number : Settles text.parts.read_number.ended text.parts.read_number.Reads.Post
+text-read-number κs given x y p q = answers-alike p q
+
+pub text-read-weight : Settles text.parts.read_weight.ended text.parts.read_weight.Reads.Post
+text-read-weight κs given x y p q = answers-alike p q
+
+pub text-read-operands : Settles text.parts.read_operands.ended text.parts.read_operands.Reads.Post
+text-read-operands κs given x y p q = answers-alike p q
+
+pub text-read-weight-operand : Settles text.parts.read_weight_operand.ended text.parts.read_weight_operand.Reads.Post
+text-read-weight-operand κs given x y p q = answers-alike p q
+
+pub text-line-end : Settles text.parts.line_end.ended text.parts.line_end.Reads.Post
+text-line-end κs given x y p q = answers-alike (p .is) (q .is)
+
+pub reply-bare : SettlesAll reply.Reply.bare.ended reply.Reply.bare.Reads.Pre reply.Reply.bare.Reads.Post
+reply-bare = (λ κs given. tt, λ κs given x y p q. answers-alike p q)
+
+pub reply-line-width : Settles reply.parts.line_width.ended reply.parts.line_width.Reads.Post
+reply-line-width κs given x y p q = answers-alike (p .is) (q .is)
+
+pub reply-write-line : Settles reply.parts.write_line.ended reply.parts.write_line.Reads.Post
+reply-write-line κs given x y p q = λ i. (alike (p .ends-at) (q .ends-at) i, (alike (p .bytes-are) (q .bytes-are) i, _))
+
+pub reply-answer : Settles reply.parts.answer.ended reply.parts.answer.Reads.Post
+reply-answer κs given x y p q = ap (λ o. (o .0, (o .1, _))) (alike p q)
+
+pub add-node-line : SettlesAll commands.add_node_line.ended commands.add_node_line.Reads.Pre commands.add_node_line.Reads.Post
+add-node-line = (λ κs given. tt, λ κs given x y p q. ap (λ o. (o .reply, nodeColumns (o .after) _)) (alike p q))
+
+pub add-edge-line : SettlesAll commands.add_edge_line.ended commands.add_edge_line.Reads.Pre commands.add_edge_line.Reads.Post
+add-edge-line = (λ κs given. tt, λ κs given x y p q. ap (λ o. (o .reply, edgeColumns (o .after) _)) (alike p q))
+
+pub update-edge-line : SettlesAll commands.update_edge_line.ended commands.update_edge_line.Reads.Pre commands.update_edge_line.Reads.Post
+update-edge-line = (λ κs given. tt, λ κs given x y p q. ap (λ o. (o .reply, edgeColumns (o .after) _)) (alike p q))
+
+pub find-edge-line : SettlesAll commands.find_edge_line.ended commands.find_edge_line.Reads.Pre commands.find_edge_line.Reads.Post
+find-edge-line = (λ κs given. tt, λ κs given x y p q. answers-alike p q)
+
+pub remove-edge-line : SettlesAll commands.remove_edge_line.ended commands.remove_edge_line.Reads.Pre commands.remove_edge_line.Reads.Post
+remove-edge-line = (λ κs given. tt, λ κs given x y p q. ap (λ o. (o .reply, edgeColumns (o .after) _)) (alike p q))
+
+pub remove-node-line : SettlesAll commands.remove_node_line.ended commands.remove_node_line.Reads.Pre commands.remove_node_line.Reads.Post
+remove-node-line = (λ κs given. tt, λ κs given x y p q. ap (λ o. (o .reply, allColumns (o .after .0) (_, (o .after .1, _)))) (alike p q))
+
+pub neighbors-line : SettlesAll commands.neighbors_line.ended commands.neighbors_line.Reads.Pre commands.neighbors_line.Reads.Post
+neighbors-line = (λ κs given. tt, λ κs given x y p q. ap (λ o. (o .reply, noColumns (_, (o .after, _)))) (alike p q))
+
+pub edges-line : SettlesAll commands.edges_line.ended commands.edges_line.Reads.Pre commands.edges_line.Reads.Post
+edges-line = (λ κs given. tt, λ κs given x y p q. ap (λ o. (o .reply, noColumns (_, (o .after .numbers, (o .after .sources, (o .after .targets, _)))))) (alike p q))
+
+pub edges-mut-line : SettlesAll commands.edges_mut_line.ended commands.edges_mut_line.Reads.Pre commands.edges_mut_line.Reads.Post
+edges-mut-line = (λ κs given. tt, λ κs given x y p q. ap (λ o. (o .reply, noColumns (_, (o .after, _)))) (alike p q))
+
+pub edges-between-line : SettlesAll commands.edges_between_line.ended commands.edges_between_line.Reads.Pre commands.edges_between_line.Reads.Post
+edges-between-line = (λ κs given. tt, λ κs given x y p q. ap (λ o. (o .reply, noColumns (_, (_, (o .after, _))))) (alike p q))
+
+pub sum-around-line : SettlesAll commands.sum_around_line.ended commands.sum_around_line.Reads.Pre commands.sum_around_line.Reads.Post
+sum-around-line = (λ κs given. tt, λ κs given x y p q. answers-alike p q)
+
+pub check-line : SettlesAll commands.check_line.ended commands.check_line.Reads.Pre commands.check_line.Reads.Post
+check-line = (λ κs given. tt, λ κs given x y p q. answers-alike p q)
+
+pub clear-edges-line : SettlesAll commands.clear_edges_line.ended commands.clear_edges_line.Reads.Pre commands.clear_edges_line.Reads.Post
+clear-edges-line = (λ κs given. tt, λ κs given x y p q. ap (λ o. (o .reply, edgeColumns (o .after) _)) (alike p q))
+
+pub clear-line : SettlesAll commands.clear_line.ended commands.clear_line.Reads.Pre commands.clear_line.Reads.Post
+clear-line = (λ κs given. tt, λ κs given x y p q. ap (λ o. (o .reply, allColumns (o .after) _)) (alike p q))
+
+pub commands-refused : Settles commands.parts.refused.ended commands.parts.refused.Reads.Post
+commands-refused κs given x y p q = answers-alike p q
+
+pub commands-value : Settles commands.parts.value.ended commands.parts.value.Reads.Post
+commands-value κs given x y p q = answers-alike p q
+
+pub commands-node-reply : Settles commands.parts.node_reply.ended commands.parts.node_reply.Reads.Post
+commands-node-reply κs given x y p q = answers-alike p q
+
+pub commands-edge-reply : Settles commands.parts.edge_reply.ended commands.parts.edge_reply.Reads.Post
+commands-edge-reply κs given x y p q = answers-alike p q
+
+pub commands-changed-reply : Settles commands.parts.changed_reply.ended commands.parts.changed_reply.Reads.Post
+commands-changed-reply κs given x y p q = answers-alike p q
+
+pub commands-items-reply : Settles commands.parts.items_reply.ended commands.parts.items_reply.Reads.Post
+commands-items-reply κs given x y p q = answers-alike p q
+
+pub commands-sum-reply : Settles commands.parts.sum_reply.ended commands.parts.sum_reply.Reads.Post
+commands-sum-reply κs given x y p q = answers-alike p q
+
+pub commands-check-reply : Settles commands.parts.check_reply.ended commands.parts.check_reply.Reads.Post
+commands-check-reply κs given x y p q = answers-alike p q
+
+pub commands-edge-removed-reply : Settles commands.parts.edge_removed_reply.ended commands.parts.edge_removed_reply.Reads.Post
+commands-edge-removed-reply κs given x y p q = answers-alike p q
+
+pub commands-node-removed-reply : Settles commands.parts.node_removed_reply.ended commands.parts.node_removed_reply.Reads.Post
+commands-node-removed-reply κs given x y p q = answers-alike p q
+
+pub operands-of : SettlesAll dispatch.operands_of.ended dispatch.operands_of.Reads.Pre dispatch.operands_of.Reads.Post
+operands-of = (λ κs given. tt, λ κs given x y p q. answers-alike p q)
+
+pub dispatch-command : SettlesAll dispatch.dispatch.ended dispatch.dispatch.Reads.Pre dispatch.dispatch.Reads.Post
+dispatch-command = (λ κs given. tt, λ κs given x y p q. ap (λ o. (o .reply, allColumns (o .after .network) (o .after .tables .numbers, (o .after .tables .sources, (o .after .tables .targets, _))))) (alike p q))
+
+pub script-answer-line : Settles script.parts.answer_line.ended script.parts.answer_line.Reads.Post
+script-answer-line κs given x y p q = ap (λ o. (o .reply, (_, (_, (_, allColumns (o .after .network) (o .after .tables .numbers, (o .after .tables .sources, (o .after .tables .targets, _)))))))) (alike p q)
+
+pub script-run-lines : Settles script.parts.run_lines.ended script.parts.run_lines.Reads.Post
+script-run-lines κs given x y p q =
+    λ i.
+    let t = alike (p .state-is) (q .state-is) i in (
+      record { number = alike (p .number-is) (q .number-is) i; bytes = alike (p .bytes-are) (q .bytes-are) i },
+      (_, (alike (p .output-is) (q .output-is) i, (_, allColumns (t .network) (t .tables .numbers, (t .tables .sources, (t .tables .targets, _)))))),
+    )
+
+pub script-limit-of : Settles script.parts.limit_of.ended script.parts.limit_of.Reads.Post
+script-limit-of κs given x y p q = answers-alike p q
+
+pub script-pack : Settles script.parts.pack.ended script.parts.pack.Reads.Post
+script-pack κs given x y p q = answers-alike p q
+
+pub run-script : SettlesAll script.net_run.ended script.net_run.Reads.Pre script.net_run.Reads.Post
+run-script = (λ κs given. tt, λ κs given x y p q. ap (λ o. (o .0, (_, (o .1, _)))) (alike p q))

@@ -1,0 +1,5 @@
+pub mod Settles
+pub mod Demand1
+pub mod Demand2
+pub mod Demand3
+pub mod Starred
