@@ -26,6 +26,19 @@ compare: target/staticlib/libscript.a
 replay:
 	cargo run $(CARGO) --quiet --bin record
 
+# Static libraries for C, Rust and Python; include/waterways.h has their calls.
+staticlib:
+	rt staticlib exportrows
+	rt staticlib exportlists
+	rt staticlib exportremovals
+
+rust: staticlib
+	cargo test --release --offline --manifest-path rust/Cargo.toml
+
+python: staticlib
+	python/build.sh
+	python3 python/network_a.py
+
 # Both are proved first, with what they stand on. What has not changed since is not proved again.
 target/bin/netrun: $(SOURCES)
 	@rt check netrun >&2
@@ -35,4 +48,4 @@ target/staticlib/libscript.a: $(SOURCES)
 	@rt staticlib script >&2
 
 .DELETE_ON_ERROR:
-.PHONY: run test check oracle compare replay
+.PHONY: run test check oracle compare replay staticlib rust python

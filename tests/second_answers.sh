@@ -23,17 +23,16 @@ functions() {
     done | sort
 }
 
-# the function of each line of the list; a line that names two, or takes less than every input where it is no part, is told whole.
-# A function that is proved by hand, `next`, has its clause in the list itself.
+# the function of each line of the list; a line that names two, or takes less than every input where it is no part, is told whole
 listed() {
-    sed -nE 's/^pub [^ ]+ : (SettlesAll|Settles) (.*)$/\1 \2/p' crates/demands/proofs/Settled*.antt | awk '
+    sed -nE 's/^pub [^ ]+ : (Settles(All|ByHand)? .*)$/\1/p' crates/demands/proofs/Settled*.antt | awk '
         {
             name = $2
             sub(/\.ended$/, "", name)
             all = "SettlesAll " name ".ended " name ".Reads.Pre " name ".Reads.Post"
             part = "Settles " name ".ended " name ".Reads.Post"
-            hand = "Settles " name ".ended next-ensures"
-            print ($0 == all || ($0 == part && name ~ /\.parts\./) || ($0 == hand && name == "lent.next")) ? name : $0
+            hand = "SettlesByHand " name ".ended (λ M. " name ".clauses {M = M}) "
+            print ($0 == all || ($0 == part && name ~ /\.parts\./) || index($0, hand) == 1) ? name : $0
         }' | sort
 }
 

@@ -5,6 +5,7 @@ pub mod generate;
 pub mod line;
 pub mod network;
 mod print;
+pub mod recorded;
 pub mod replay;
 mod rows;
 pub mod run;

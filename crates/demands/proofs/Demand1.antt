@@ -1,10 +1,10 @@
 -- Demand 1, `demand-1`, by one law: a call is its tests, each with its refusal, and then it is served. Assumes nothing.
 use Prim.{tt}
-use Prim.Native.Nat.{ℕ, _-_}
-use mathlib.Core.Path.{_≡_, refl, ap}
+use Prim.Native.Nat.{ℕ, suc, _+_, _-_, min}
+use mathlib.Core.Path.{_≡_, refl, sym, ap, subst}
 use mathlib.Core.Logic.{_⊎_, inl, inr}
 use mathlib.Core.Bool.{Bool, true, false, cond, not, _&&_}
-use mathlib.Core.List.{List, [], _∷_, _++_}
+use mathlib.Core.List.{List, [], _∷_, _++_, map, append-nil, append-assoc}
 use native.Mathlib.Omega.{arith}
 use borrow.Author.Tests.{eqb-true, leb-true}
 use lib.Dec.{eqb, ltb, leb}
@@ -34,20 +34,21 @@ use Rattle.walker.specs.Sums.{present, sumAround}
 use Rattle.sound.specs.declared.Walked.{Walked}
 use Rattle.sound.specs.declared.Walked.the-variants.{Read, FaultAt}
 use Rattle.sound.specs.declared.Checked.the-variants as Checked·
-use Rattle.sound.specs.Check.{way, verdict, checked, accepted, toldChecked}
+use Rattle.sound.specs.Check.{way, verdict, checked, isSound, toldChecked}
 use Rattle.links.specs.declared.Located.{Located}
 use Rattle.links.specs.declared.Located.the-variants as Located·
 use Rattle.removal.specs.Removal.{Gone, onPlace, placeOf, bypassed, lastMoved, gone, takenOut, removeEdge}
 use Rattle.closing.specs.Closing.{closedIfRoom, removeNode}
 use Rattle.layout.specs.Layout.{version, headBytes, imageLength, marked, versionIn, nodesIn, edgesIn}
 use Rattle.imagerows.specs.Image.{imageOf, loaded}
-use Rattle.sound.specs.Check.{isSound}
 use Rattle.image.specs.Calls.{imageWrite, settled, readOne, imageRead, vacated}
 use Rattle.image.proofs.Vacated.{loaded-vacated}
-use Rattle.dispatch.specs.Step.{among}
-use Rattle.script.proofs.Limits.{run-number, run-whole}
+use Rattle.text.specs.Lines.{lines}
+use Rattle.commands.specs.Commands.{Replied}
+use Rattle.dispatch.specs.Step.{State, among}
+use Rattle.script.specs.Script.{mostBytes, textOf, answers, Each, ran, printed, begun, runFrom, run}
 use Rattle.script.proofs.Sayings.{run-told}
-use Rattle.demands.specs.Demand1.{ServedOr, served, refused-by, Refuses, Tells, stepRefusal, loadRefusal, Demand1}
+use Rattle.demands.specs.Demand1.{ServedOr, served, refused-by, Refuses, Tells, stepRefusal, loadRefusal, firstLines, runRefusal, Demand1}
 
 -- a number that is found in a list stands in it
 in-list : (x : ℕ) (xs : List ℕ) → among x xs ≡ true → In x xs
@@ -129,11 +130,37 @@ load-broken g bytes f t =
     refused-by 6 (in-list 6 (1 ∷ 8 ∷ 9 ∷ 2 ∷ 6 ∷ []) refl)
     (ap (out (refused Broken tt)) (loaded-vacated g bytes n m f (leb-true _ _ (rows .0)) (leb-true _ _ (rows .1))))
 
--- 0, 1 or 7, as members of a list
-one-of-three : {x : ℕ} → (x ≡ 0) ⊎ ((x ≡ 1) ⊎ (x ≡ 7)) → In x (0 ∷ 1 ∷ 7 ∷ [])
-one-of-three (inl p) = inl p
-one-of-three (inr (inl p)) = inr (inl p)
-one-of-three (inr (inr p)) = inr (inr (inl p))
+-- a run that prints its answer lines behind what is written: all of them, or the first so many, each whole
+printing : (limit : ℕ) (before : List ℕ) (texts : List (List ℕ))
+    → (count : ℕ) × ServedOr (λ r. r .number) (1 ∷ 7 ∷ []) (λ why. ran why (cond (eqb why 1) [] (before ++ firstLines count texts))) (printed limit before texts)
+unfolding printed
+printing limit before [] = (0, served refl)
+printing limit before (text ∷ others) = go (leb (length before + length text) limit) (printing limit (before ++ text) others)
+  where
+    go : (b : Bool)
+        → (count : ℕ) × ServedOr (λ r. r .number) (1 ∷ 7 ∷ []) (λ why. ran why (cond (eqb why 1) [] ((before ++ text) ++ firstLines count others))) (printed limit (before ++ text) others)
+        → (count : ℕ) × ServedOr (λ r. r .number) (1 ∷ 7 ∷ []) (λ why. ran why (cond (eqb why 1) [] (before ++ firstLines count (text ∷ others)))) (unless b (ran 7 before) (printed limit (before ++ text) others))
+    go true (count, p) = (
+      suc count,
+      subst (λ (bytes : List ℕ). ServedOr (λ r. r .number) (1 ∷ 7 ∷ []) (λ why. ran why (cond (eqb why 1) [] bytes)) (printed limit (before ++ text) others)) (append-assoc before text (firstLines count others)) p,
+    )
+    go false r = (0, refused-by 7 (in-list 7 (1 ∷ 7 ∷ []) refl) (ap (ran 7) (sym (append-nil before))))
+
+running : (script : List ℕ) (room : ℕ) → (count : ℕ) × ServedOr (λ r. r .number) (1 ∷ 7 ∷ []) (runRefusal script count) (run script room)
+unfolding run
+running script room = go (leb (length script) mostBytes) (printing (min room mostBytes) [] (map textOf (answers (lines script) begun)))
+  where
+    go : (b : Bool)
+        → (count : ℕ) × ServedOr (λ r. r .number) (1 ∷ 7 ∷ []) (runRefusal script count) (runFrom begun (min room mostBytes) script)
+        → (count : ℕ) × ServedOr (λ r. r .number) (1 ∷ 7 ∷ []) (runRefusal script count) (unless b (ran 1 []) (runFrom begun (min room mostBytes) script))
+    go true r = r
+    go false r = (0, by-number 1 refl)
+
+-- the number of each answer is in the list
+each-listed : (os : List (Replied State)) → Each (λ o. among (o .reply .number) (0 ∷ 2 ∷ 3 ∷ 4 ∷ 5 ∷ 10 ∷ []) ≡ true) os
+    → Each (λ o. In (o .reply .number) (0 ∷ 2 ∷ 3 ∷ 4 ∷ 5 ∷ 10 ∷ [])) os
+each-listed [] h = tt
+each-listed (o ∷ others) h = (in-list (o .reply .number) (0 ∷ 2 ∷ 3 ∷ 4 ∷ 5 ∷ 10 ∷ []) (h .0), each-listed others (h .1))
 
 pub demand-1 : Demand1
 unfolding nodeWeight edgeWeight edgeEndpoints firstEdge nextEdge setNodeWeight setEdgeWeight addNode allEdgeWeights clearEdges clear neighbors edgeWeights edgesBetween edgesMut edges findEdge containsEdge updateEdge begin step sumAround checked removeEdge takenOut gone lastMoved removeNode closedIfRoom imageWrite imageRead readOne settled
@@ -199,7 +226,7 @@ demand-1 =
           λ g a items.
           if-not (fits g) 1 refl
           (if-not (ltb a (g .n)) 3 refl
-          (if-not (accepted (checked g)) 6 refl
+          (if-not (isSound g) 6 refl
           (if-not (leb (length (around g Weight a)) (length items)) 7 refl (served refl))));
       image-write = λ g bytes. if-not (fits g) 1 refl (if-not (isSound g) 6 refl (giving (imageOf g) bytes refl));
       image-read =
@@ -212,7 +239,6 @@ demand-1 =
           (passing (leb n (length (g .weights)) && leb m (length (g .registers))) (by-number 2 refl) (λ t.
           if-not (eqb (length bytes) (imageLength n m)) 8 refl
           (passes-or (isSound (loaded g bytes n m)) (load-broken g bytes f t) (served refl))))));
-      run-told = λ script room. one-of-three (run-number script room);
-      run-lines = run-whole;
-      line-told = run-told;
+      net-run = running;
+      line-told = λ script. each-listed (answers (lines script) begun) (run-told script);
     }

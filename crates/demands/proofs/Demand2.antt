@@ -1,5 +1,5 @@
 -- Demand 2, `demand-2`, from the theorems of the layers below. Assumes nothing.
-use Prim.{Unit, tt}
+use Prim.{Unit}
 use Prim.Native.Nat.{ℕ}
 use mathlib.Core.Path.{_≡_, sym, ap, subst, _∙_}
 use mathlib.Core.Logic.{inl, inr}
@@ -37,14 +37,14 @@ use Rattle.imagerows.proofs.Loads.{loaded-fits}
 use Rattle.image.specs.Calls.{imageRead}
 use Rattle.image.proofs.Copies.{is-sound-says, read-says, read-is}
 use Rattle.image.proofs.RoundTrip as RoundTrip·
-use Rattle.commands.specs.Commands.{Replied, addNodeLine, addEdgeLine, updateEdgeLine, removeEdgeLine, removeNodeLine, clearEdgesLine, clearLine}
+use Rattle.commands.specs.Commands.{addNodeLine, addEdgeLine, updateEdgeLine, removeEdgeLine, removeNodeLine, clearEdgesLine, clearLine}
 use Rattle.commands.proofs.Ways.{tested}
 use Rattle.commands.proofs.Kept.{Sane, add-node-keeps, add-edge-keeps, update-edge-keeps, remove-edge-keeps, remove-node-keeps, clear-edges-keeps, clear-keeps}
-use Rattle.text.specs.Lines.{lines}
-use Rattle.dispatch.specs.Step.{State}
-use Rattle.script.specs.Script.{answers, Each, begun}
-use Rattle.script.proofs.Throughout.{run-sound}
 use Rattle.commands.proofs.Sixes.{Not6, Leaves6, give-6, three-6, sought-ways, find-6, update-6, gone-6, closed-6, walked-6, sum-6}
+use Rattle.text.specs.Lines.{lines}
+use Rattle.script.specs.Script.{begun}
+use Rattle.script.proofs.Throughout.{begun-sane, line-keeps, each-answer, run-6}
+use Rattle.alike.proofs.Gathered.{as-rust}
 use Rattle.demands.specs.Demand2.{SoundNet, Unbroken, NothingBroken, LeftSound, Demand2}
 
 -- the lists that a network has are those that a walk meets
@@ -144,20 +144,18 @@ loaded-sound t bytes z =
     subst (λ (o : Out (Unit {0}) Net). SoundNet (o .after)) (sym (read-is t bytes r))
     (loaded-fits t bytes (nodesIn bytes) (edgesIn bytes) (r .lent) (r .n-within) (r .m-within), is-sound-says g (r .sound))
 
--- sound with some lists, and so with those that a walk meets, behind each line
-each-sound : (os : List (Replied State)) → Each (λ o. Sane (o .after .network)) os → Each (λ o. SoundNet (o .after .network)) os
-each-sound [] h = tt
-each-sound (o ∷ others) h = (walked-so _ (h .0), each-sound others (h .1))
-
 pub demand-2 : Demand2
 demand-2 =
     record {
+      as-rust = λ g h. as-rust g (lists g) (h .0) (h .1);
       nothing-broken = λ g h. unbroken-all g (h .0) (h .1);
       left-sound = left-all;
-      run-sound = λ script. each-sound (answers (lines script) begun) (run-sound script);
       sound-accepted = λ g h. sound-0 g (lists g) (h .0) (h .1);
       accepted-sound = λ g z. let a = answered-0 g z in (a .0, a .1);
       loaded-sound = loaded-sound;
+      run-sound =
+          λ script. each-answer (λ s. Sane (s .network)) (λ o. SoundNet (o .after .network)) line-keeps (λ line s h. walked-so _ (line-keeps line s h)) (lines script) begun begun-sane;
+      run-unbroken = run-6;
       written-read = RoundTrip·.written-read;
       read-written = RoundTrip·.read-written;
     }

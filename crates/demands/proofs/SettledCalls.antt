@@ -1,6 +1,6 @@
 -- The contract of each call settles it: a second answer that meets it is equal. Assumes nothing.
 use Prim.{tt}
-use mathlib.Core.Path.{_≡_, ap}
+use mathlib.Core.Path.{_≡_, refl, ap}
 use denote.Ref.{now}
 use Rattle.tables.specs.Net.{net}
 use Rattle.tables.specs.Answers.{out, toldNode, toldEdge, toldChange, toldItems}
@@ -23,7 +23,7 @@ use Rattle.sound.proofs as sound
 use Rattle.removal.proofs as removal
 use Rattle.closing.proofs as closing
 use Rattle.image.proofs as image
-use Rattle.demands.specs.Settles.{Ensures, Settles, SettlesAll}
+use Rattle.demands.specs.Settles.{Ensures, SettlesAll, SettlesByHand}
 use Rattle.demands.proofs.Alike.{alike, answers-alike, told-alike, allColumns, nodeColumns, edgeColumns, noColumns}
 
 pub node-index : SettlesAll index.NodeIndex.index.ended index.NodeIndex.index.Reads.Pre index.NodeIndex.index.Reads.Post
@@ -116,13 +116,19 @@ walker-new = (λ κs given. tt, λ κs given x y p q. ap (λ r. (r, _)) (begun-t
 pub walker-step : SettlesAll walker.Walker.step.ended walker.Walker.step.Reads.Pre walker.Walker.step.Reads.Post
 walker-step = (λ κs given. tt, λ κs given x y p q. ap (λ r. (r, _)) (step-told-once _ _ (alike p q)))
 
--- `next` is proved by hand, and of such a function the prover reads no clause off: its `ensures` clause stands here again
-abbrev next-ensures : Ensures lent.next.ended
-next-ensures κs (w, (weights, (heads, (registers, (links, (ends, (n, (m, none)))))))) r left =
-    out (toldNode r) (now (left .0)) ≡ step (net (now weights) (now heads) (now registers) (now links) (now ends) n m) (now w)
+-- the claim of `next`, which is proved by hand: of what was given the walker stands first, then the network
+abbrev next-claim : Ensures lent.next.ended
+next-claim κs given r s =
+    out (toldNode r) (now (s .0))
+    ≡ step (net (now (given .1 .0)) (now (given .1 .1 .0)) (now (given .1 .1 .1 .0)) (now (given .1 .1 .1 .1 .0)) (now (given .1 .1 .1 .1 .1 .0)) (given .1 .1 .1 .1 .1 .1 .0) (given .1 .1 .1 .1 .1 .1 .1 .0)) (now (given .0))
 
-pub walker-next : Settles lent.next.ended next-ensures
-walker-next κs given x y p q = ap (λ o. (o .0, (o .1, _))) (told-alike toldNode node-told-once p q)
+pub lent-next : SettlesByHand lent.next.ended (λ M. lent.next.clauses {M = M}) next-claim
+lent-next =
+    record {
+      asks-nothing = λ M 𝓤 H A mem run κs given ghost. refl;
+      is-claim = λ M 𝓤 H A mem run κs given ghost r s. refl;
+      settles = λ κs given x y p q. ap (λ o. (o .0, (o .1, _))) (told-alike toldNode node-told-once p q);
+    }
 
 pub sum-around : SettlesAll walker.sum_around.ended walker.sum_around.Reads.Pre walker.sum_around.Reads.Post
 sum-around = (λ κs given. tt, λ κs given x y p q. ap (λ r. (r, _)) (summed-told-once _ _ (alike p q)))

@@ -1,4 +1,4 @@
--- The same of a script's run and of what it is made of: its texts, its answer lines and its commands. Assumes nothing.
+-- The same of what a script is made of, and of its run: its texts, its answer lines, its commands. Assumes nothing.
 use Prim.{tt}
 use mathlib.Core.Path.{ap}
 use Rattle.text.proofs as text
@@ -141,15 +141,19 @@ operands-of = (λ κs given. tt, λ κs given x y p q. answers-alike p q)
 pub dispatch-command : SettlesAll dispatch.dispatch.ended dispatch.dispatch.Reads.Pre dispatch.dispatch.Reads.Post
 dispatch-command = (λ κs given. tt, λ κs given x y p q. ap (λ o. (o .reply, allColumns (o .after .network) (o .after .tables .numbers, (o .after .tables .sources, (o .after .tables .targets, _))))) (alike p q))
 
+pub net-run : SettlesAll script.net_run.ended script.net_run.Reads.Pre script.net_run.Reads.Post
+net-run = (λ κs given. tt, λ κs given x y p q. ap (λ o. (o .0, (_, (o .1, _)))) (alike p q))
+
 pub script-answer-line : Settles script.parts.answer_line.ended script.parts.answer_line.Reads.Post
-script-answer-line κs given x y p q = ap (λ o. (o .reply, (_, (_, (_, allColumns (o .after .network) (o .after .tables .numbers, (o .after .tables .sources, (o .after .tables .targets, _)))))))) (alike p q)
+script-answer-line κs given x y p q =
+    ap (λ o. (o .reply, (_, (_, (_, allColumns (o .after .network) (o .after .tables .numbers, (o .after .tables .sources, (o .after .tables .targets, _)))))))) (alike p q)
 
 pub script-run-lines : Settles script.parts.run_lines.ended script.parts.run_lines.Reads.Post
 script-run-lines κs given x y p q =
-    λ i.
-    let t = alike (p .state-is) (q .state-is) i in (
+    let s = alike (p .state-is) (q .state-is) in
+    λ i. (
       record { number = alike (p .number-is) (q .number-is) i; bytes = alike (p .bytes-are) (q .bytes-are) i },
-      (_, (alike (p .output-is) (q .output-is) i, (_, allColumns (t .network) (t .tables .numbers, (t .tables .sources, (t .tables .targets, _)))))),
+      (_, (alike (p .output-is) (q .output-is) i, (_, allColumns (s i .network) (s i .tables .numbers, (s i .tables .sources, (s i .tables .targets, _)))))),
     )
 
 pub script-limit-of : Settles script.parts.limit_of.ended script.parts.limit_of.Reads.Post
@@ -157,6 +161,3 @@ script-limit-of κs given x y p q = answers-alike p q
 
 pub script-pack : Settles script.parts.pack.ended script.parts.pack.Reads.Post
 script-pack κs given x y p q = answers-alike p q
-
-pub run-script : SettlesAll script.net_run.ended script.net_run.Reads.Pre script.net_run.Reads.Post
-run-script = (λ κs given. tt, λ κs given x y p q. ap (λ o. (o .0, (_, (o .1, _)))) (alike p q))

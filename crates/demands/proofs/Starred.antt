@@ -14,12 +14,15 @@ use Rattle.removal.specs.Removal.{bypassed, lastOut, lastInto, lastMoved, gone,
 use Rattle.stripping.specs.Heads.{emptied, stripped}
 use Rattle.dropping.specs.Drop.{dropped}
 use Rattle.closing.specs.Closing.{closedIfRoom, removeNode}
+use Rattle.text.specs.Bytes.{before}
 use Rattle.text.specs.Digits.{spelt, digits, fieldsText}
+use Rattle.text.specs.Numbers.{magnitude, fields, operands}
 use Rattle.reply.specs.Replies.{lineOf}
 use Rattle.commands.specs.Commands.{neighborsLine, findEdgeLine, sumAroundLine, removeEdgeLine, removeNodeLine}
-use Rattle.dispatch.specs.Step.{step}
+use Rattle.dispatch.specs.Step.{operandsOf, step}
+use Rattle.script.specs.Script.{numbersBehind, lineAnswer}
 use Rattle.demands.specs.Starred.{CasesHold}
 
 pub cases-hold : CasesHold
-unfolding networkA step neighborsLine findEdgeLine sumAroundLine removeEdgeLine removeNodeLine lineOf digits spelt fieldsText neighbors findEdge soughtFrom sumAround removeEdge removeNode fit walk stop checked oneWay upTo walked closedIfRoom stripped emptied dropped takenOut gone lastMoved lastInto lastOut bypassed led headsAt linksAt located searched seek withEdge withNode
+unfolding networkA lineAnswer numbersBehind operandsOf operands fields before magnitude step neighborsLine findEdgeLine sumAroundLine removeEdgeLine removeNodeLine lineOf digits spelt fieldsText neighbors findEdge soughtFrom sumAround removeEdge removeNode fit walk stop checked oneWay upTo walked closedIfRoom stripped emptied dropped takenOut gone lastMoved lastInto lastOut bypassed led headsAt linksAt located searched seek withEdge withNode
 cases-hold = refl

@@ -1,14 +1,13 @@
 -- Demand 1: 'What it can't serve it refuses by a number listed .., and the network stays as it was, except that a file with broken links .. leaves it empty.'
 -- That each call takes every input is said of its contract, in Settles.
 use Prim.{Unit, tt}
-use Prim.Native.Nat.{ℕ}
+use Prim.Native.Nat.{ℕ, zero, suc}
 use mathlib.Core.Path.{_≡_}
 use mathlib.Core.Logic.{_⊎_}
-use mathlib.Core.Bool.{true, cond}
-use mathlib.Core.List.{List, [], _∷_, map}
+use mathlib.Core.Bool.{cond}
+use mathlib.Core.List.{List, [], _∷_, _++_, map}
 use lib.Dec.{eqb}
 use lib.IntN.{ℤ, pos}
-use lib.ListN.{take}
 use Rattle.index.specs.declared.EdgeDirection.{EdgeDirection}
 use Rattle.index.specs.declared.Refusal.the-variants.{Broken}
 use Rattle.index.specs.Index.{numberOf}
@@ -29,8 +28,7 @@ use Rattle.removal.specs.Removal.{removeEdge}
 use Rattle.closing.specs.Closing.{removeNode}
 use Rattle.image.specs.Calls.{imageWrite, imageRead, vacated}
 use Rattle.text.specs.Lines.{lines}
-use Rattle.dispatch.specs.Step.{among}
-use Rattle.script.specs.Script.{answers, Each, textOf, joined, begun, run}
+use Rattle.script.specs.Script.{Ran, ran, textOf, answers, Each, begun, run}
 
 -- a call is served; or it is refused by one of these numbers, and then it comes to this
 pub data ServedOr {X : Type 0} (number : X → ℕ) (numbers : List ℕ) (refusal : ℕ → X) (x : X) : Type 0 where
@@ -54,6 +52,15 @@ stepRefusal g w number = refusal 0 (cond (eqb number 5) (withIncoming w (stopFro
 
 abbrev pub loadRefusal : Net → ℕ → Out Unit Net
 loadRefusal g number = refusal tt (cond (eqb number 6) (vacated g) g) number
+
+-- so many of a script's answer lines, each whole; a script too long is told 1, with none
+abbrev pub firstLines : ℕ → List (List ℕ) → List ℕ
+firstLines zero texts = []
+firstLines (suc count) [] = []
+firstLines (suc count) (text ∷ others) = text ++ firstLines count others
+
+abbrev pub runRefusal : List ℕ → ℕ → ℕ → Ran
+runRefusal script count why = ran why (cond (eqb why 1) [] (firstLines count (map textOf (answers (lines script) begun))))
 
 -- the numbers of each call
 pub record Demand1 : Type 0 where
@@ -89,8 +96,7 @@ pub record Demand1 : Type 0 where
   pub remove-node : (g : Net) (a : ℕ) (items : List ℕ) → Refuses (1 ∷ 3 ∷ 6 ∷ 7 ∷ []) (pos 0, 0, 0) (g, items) (removeNode g a items)
   pub image-write : (g : Net) (bytes : List ℕ) → Refuses (1 ∷ 6 ∷ 7 ∷ []) 0 bytes (imageWrite g bytes)
   pub image-read : (g : Net) (bytes : List ℕ) → ServedOr (λ o. o .answer .number) (1 ∷ 8 ∷ 9 ∷ 2 ∷ 6 ∷ []) (loadRefusal g) (imageRead g bytes)
-  -- a run is told 0, 1 or 7; whatever it is told, the lines written stay, and they are whole answer lines, from the first on
-  pub run-told : (script : List ℕ) (room : ℕ) → In (run script room .number) (0 ∷ 1 ∷ 7 ∷ [])
-  pub run-lines : (script : List ℕ) (room : ℕ) → (count : ℕ) × (run script room .bytes ≡ joined (take count (map textOf (answers (lines script) begun))))
-  -- and each of its lines is told one of these
-  pub line-told : (script : List ℕ) → Each (λ o. among (o .reply .number) (0 ∷ 2 ∷ 3 ∷ 4 ∷ 5 ∷ 10 ∷ []) ≡ true) (answers (lines script) begun)
+  -- a run: a script that is too long writes nothing, and one stopped by 7 keeps the lines already written
+  pub net-run : (script : List ℕ) (room : ℕ) → (count : ℕ) × ServedOr (λ r. r .number) (1 ∷ 7 ∷ []) (runRefusal script count) (run script room)
+  -- each of its lines is told one of these
+  pub line-told : (script : List ℕ) → Each (λ o. In (o .reply .number) (0 ∷ 2 ∷ 3 ∷ 4 ∷ 5 ∷ 10 ∷ [])) (answers (lines script) begun)

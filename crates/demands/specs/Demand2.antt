@@ -1,5 +1,5 @@
 -- Demand 2: 'On every sound network within our limits each answer and every row afterwards equal the Rust's.' The rules are the definitions of the
--- calls, which their contracts equal on all inputs. Here is what these come to on a sound network: nothing is broken, and it stays sound.
+-- calls, which their contracts equal on all inputs. Here is what these come to on a sound network: they are the Rust's, nothing is broken, and it stays sound.
 use Prim.{tt}
 use Prim.Native.Nat.{ℕ, _*_, _≤_}
 use mathlib.Core.Path.{_≡_}
@@ -21,6 +21,7 @@ use Rattle.sound.specs.Sound.{Sound, lists}
 use Rattle.sound.specs.Check.{checked, toldChecked}
 use Rattle.removal.specs.Removal.{removeEdge}
 use Rattle.closing.specs.Closing.{removeNode}
+use Rattle.alike.specs.Calls.{AsRust}
 use Rattle.layout.specs.Numbers.{Bytes}
 use Rattle.image.specs.RoundTrip.{Cells, SameRows}
 use Rattle.image.specs.Calls.{imageWrite, imageRead}
@@ -65,15 +66,18 @@ pub record LeftSound (g : Net) : Type 0 where
   pub clear-all : SoundNet (clear g .after)
 
 pub record Demand2 : Type 0 where
+  -- 'each answer and every row afterwards equal the Rust's', graph.rs being what crates/original has
+  pub as-rust : (g : Net) → SoundNet g → AsRust g
   pub nothing-broken : (g : Net) → SoundNet g → NothingBroken g
   pub left-sound : (g : Net) → SoundNet g → LeftSound g
-  -- the network in a run is always sound
-  pub run-sound : (script : List ℕ) → Each (λ o. SoundNet (o .after .network)) (answers (lines script) begun)
   -- the check accepts exactly the sound networks
   pub sound-accepted : (g : Net) → SoundNet g → toldChecked (checked g) ≡ done (2 * g .m, 0, 0)
   pub accepted-sound : (g : Net) → toldChecked (checked g) .number ≡ 0 → SoundNet g
   -- a load that is served leaves a sound network, whatever was there
   pub loaded-sound : (t : Net) (bytes : List ℕ) → imageRead t bytes .answer .number ≡ 0 → SoundNet (imageRead t bytes .after)
+  -- the network in a run is always sound, and no line of it is told 6
+  pub run-sound : (script : List ℕ) → Each (λ o. SoundNet (o .after .network)) (answers (lines script) begun)
+  pub run-unbroken : (script : List ℕ) → Each (λ o. o .reply .number ≡ 6 → ⊥) (answers (lines script) begun)
   -- 'An image written and read back gives the same rows': read into tables with room
   pub written-read : (g t : Net) (bytes : List ℕ) → Cells g → imageWrite g bytes .answer .number ≡ 0
       → fits t ≡ true → g .n ≤ length (t .weights) → g .m ≤ length (t .registers)

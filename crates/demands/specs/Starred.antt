@@ -1,11 +1,11 @@
--- The order's starred cases, as one table: a network, a command, the answer line that is printed, and the network with the rows that are left.
+-- The order's starred cases, as one table: a network, a command line, the answer line that is printed, and the network with the rows that are left.
 use Prim.Native.Nat.{ℕ}
 use Prim.Native.Char.{code}
 use Prim.Native.String.{String}
 use mathlib.Core.Path.{_≡_}
 use mathlib.Core.List.{List, [], _∷_, _++_, map}
 use lib.IntN.{ℤ, pos, negsuc}
-use lib.ListN.{getD, replicate}
+use lib.ListN.{replicate}
 use Rattle.index.specs.Index.{END}
 use Rattle.tables.specs.declared.row.Node.{Node}
 use Rattle.tables.specs.declared.row.Edge.{Edge}
@@ -14,9 +14,9 @@ use Rattle.tables.specs.Rows.{vacantNode, vacantEdge}
 use Rattle.tables.proofs.NetworkA.{empty, networkA}
 use Rattle.walks.specs.Legs.{Tables3, tables3}
 use Rattle.text.specs.Bytes.{newline}
-use Rattle.reply.specs.Replies.{lineOf}
 use Rattle.commands.specs.Commands.{Replied}
-use Rattle.dispatch.specs.Step.{State, state, step}
+use Rattle.dispatch.specs.Step.{State, state}
+use Rattle.script.specs.Script.{lineAnswer, textOf}
 
 -- the bytes of a text
 abbrev pub bytes : String → List ℕ
@@ -87,32 +87,31 @@ afterD2 =
     2
     2
 
--- a case: the network, the command's letter and numbers, the answer line, the network afterwards
+-- a case: the network, the command, the answer, the network afterwards
 pub record Case : Type 0 where
   pub network : Net
-  pub letter : String
-  pub numbers : List ℕ
+  pub command : String
   pub answer : String
   pub after : Net
 
-abbrev pub case : Net → String → List ℕ → String → Net → Case
-case network letter numbers answer after = record { network = network; letter = letter; numbers = numbers; answer = answer; after = after }
+abbrev pub case : Net → String → String → Net → Case
+case network command answer after = record { network = network; command = command; answer = answer; after = after }
 
 abbrev pub starred : List Case
 starred =
-    case networkA "W" (0 ∷ []) "W 0 2 2 1" networkA
-    ∷ case networkA "W" (2 ∷ []) "W 0 2 0 1" networkA
-    ∷ case networkA "F" (2 ∷ 1 ∷ []) "F 0 1" networkA
-    ∷ case networkA "F" (1 ∷ 1 ∷ []) "F 0 3" networkA
-    ∷ case networkA "F" (0 ∷ 0 ∷ []) "F 5" networkA
-    ∷ case networkA "A" (1 ∷ []) "A 0 10" networkA
-    ∷ case networkA "X" (3 ∷ []) "X 0 13 - 0" afterX3
-    ∷ case networkA "X" (4 ∷ []) "X 4" networkA
-    ∷ case networkA "X" (0 ∷ []) "X 0 10 3 2" afterX0
-    ∷ case networkA "D" (0 ∷ []) "D 0 5 2 2 12 10" afterD0
-    ∷ case networkA "D" (2 ∷ []) "D 0 8 1 2 12 11" afterD2
-    ∷ case (empty 3 4) "W" (0 ∷ []) "W 0 0" (empty 3 4)
-    ∷ case (empty 3 4) "D" (0 ∷ []) "D 3" (empty 3 4)
+    case networkA "W 0" "W 0 2 2 1" networkA
+    ∷ case networkA "W 2" "W 0 2 0 1" networkA
+    ∷ case networkA "F 2 1" "F 0 1" networkA
+    ∷ case networkA "F 1 1" "F 0 3" networkA
+    ∷ case networkA "F 0 0" "F 5" networkA
+    ∷ case networkA "A 1" "A 0 10" networkA
+    ∷ case networkA "X 3" "X 0 13 - 0" afterX3
+    ∷ case networkA "X 4" "X 4" networkA
+    ∷ case networkA "X 0" "X 0 10 3 2" afterX0
+    ∷ case networkA "D 0" "D 0 5 2 2 12 10" afterD0
+    ∷ case networkA "D 2" "D 0 8 1 2 12 11" afterD2
+    ∷ case (empty 3 4) "W 0" "W 0 0" (empty 3 4)
+    ∷ case (empty 3 4) "D 0" "D 3" (empty 3 4)
     ∷ []
 
 -- the command obeyed, with output tables of four items
@@ -120,15 +119,11 @@ abbrev pub fourItems : Tables3
 fourItems = tables3 (replicate 4 0) (replicate 4 0) (replicate 4 0)
 
 abbrev pub obeyed : Case → Replied State
-obeyed c =
-    step
-    (getD (bytes (c .letter)) 0 0)
-    (record { w = pos 0; a = getD (c .numbers) 0 0; b = getD (c .numbers) 1 0; c = getD (c .numbers) 2 0 })
-    (state (c .network) fourItems)
+obeyed c = lineAnswer (bytes (c .command)) (state (c .network) fourItems)
 
 -- what it comes to by the definitions, and what the table says
 abbrev pub outcome : Case → List ℕ × Net
-outcome c = (lineOf (obeyed c .reply) (obeyed c .after .tables .numbers), obeyed c .after .network)
+outcome c = (textOf (obeyed c), obeyed c .after .network)
 
 abbrev pub expected : Case → List ℕ × Net
 expected c = (bytes (c .answer) ++ (newline ∷ []), c .after)

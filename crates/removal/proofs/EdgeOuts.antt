@@ -37,11 +37,11 @@ use Rattle.removal.proofs.Bounds.{most-rows}
 use Rattle.removal.proofs.Stores.{Else, nothing-else, Remains, led-link, led-else, last-out, last-into}
 
 -- both directions of a network, but for edge e, which is in no list
-abbrev Lacks : Net → (ℕ → ℕ → List ℕ) → ℕ → Type 0
+abbrev pub Lacks : Net → (ℕ → ℕ → List ℕ) → ℕ → Type 0
 Lacks g ls e = (k : ℕ) → k < 2 → Lacking (g .n) (g .m) (linkAt g k) (endAt g k) (ls k) e
 
 -- the spot that leads to x in its list of direction k
-abbrev leader : Net → (ℕ → ℕ → List ℕ) → (x k : ℕ) → Spot
+abbrev pub leader : Net → (ℕ → ℕ → List ℕ) → (x k : ℕ) → Spot
 leader g ls x k = spotOf x (Head (endAt g k x)) (ls k (endAt g k x))
 
 -- another edge x is found, and the links to it can be led elsewhere
@@ -57,7 +57,7 @@ module _ (g : Net) (ls : ℕ → ℕ → List ℕ) (e : ℕ) (f : fits g ≡ tru
           let b = B k h .has-end x lt in
           found-at (linkAt g k) (g .m) x (small g f) (endAt g k) (g .n) (ls k (endAt g k x)) b (B k h .chain (endAt g k x) b) (B k h .listed x lt d)
 
-  place : (k : ℕ) → k < 2 → Place (length (g .heads)) (length (g .links)) k (leader g ls x k)
+  pub place : (k : ℕ) → k < 2 → Place (length (g .heads)) (length (g .links)) k (leader g ls x k)
   unfolding Place
   place k h =
       let t = fitOf g f in
@@ -74,28 +74,28 @@ module _ (g : Net) (ls : ℕ → ℕ → List ℕ) (e : ℕ) (f : fits g ≡ tru
       (l .0) (l .1)
 
 -- a removal that is served, and leaves h
-abbrev served : Net → (ℕ → ℕ → List ℕ) → ℕ → Net → Gone
+abbrev pub served : Net → (ℕ → ℕ → List ℕ) → ℕ → Net → Gone
 served g ls e h = out (done (getD (g .registers) e 0, cond (eqb e (g .m - 1)) END (g .m - 1), rowsRead (endAt g) ls (g .m - 1) e)) h
 
 module _ (g : Net) (ls : ℕ → ℕ → List ℕ) (e : ℕ) (f : fits g ≡ true) (S : Sound g ls) (lt : e < g .m) where
-  all : Lacks g ls (g .m)
+  pub all : Lacks g ls (g .m)
   all k h = whole (g .n) (g .m) (small g f) (linkAt g k) (endAt g k) (ls k) (members g ls (small g f) S k h)
 
   -- e is found, and bypassed
   found : placeOf g e ≡ Located·.At (leader g ls e 0) (leader g ls e 1) (rowsBefore (endAt g) ls e)
   found = placed g ls (g .m) f all e lt (omega arith)
 
-  cut : Net
+  unfoldable pub cut : Net
   cut = bypassed g e (leader g ls e 0) (leader g ls e 1)
 
-  cut-else : Else g cut
+  pub cut-else : Else g cut
   unfolding cut bypassed
   cut-else = led-else g (leader g ls e 0) (leader g ls e 1) (linkAt g 0 (After e)) (linkAt g 1 (After e))
 
-  cut-fits : fits cut ≡ true
+  pub cut-fits : fits cut ≡ true
   cut-fits = cut-else .fit ∙ f
 
-  cut-lacks : Lacks cut (left e ls) e
+  pub cut-lacks : Lacks cut (left e ls) e
   unfolding cut bypassed
   cut-lacks k h =
       rw (cut-else .nodes, cut-else .edges, cut-else .ends)
@@ -135,7 +135,7 @@ module _ (g : Net) (ls : ℕ → ℕ → List ℕ) (e : ℕ) (f : fits g ≡ tru
 
   -- e is the last row, and goes
   module _ (q : e ≡ g .m - 1) where
-    last-is : takenOut g e ≡ served g ls e (lastOut cut e)
+    pub last-is : takenOut g e ≡ served g ls e (lastOut cut e)
     unfolding takenOut gone cut
     last-is = rw (found, eq-eqb e (g .m - 1) q, add-zero (rowsBefore (endAt g) ls e))
 
@@ -147,17 +147,17 @@ module _ (g : Net) (ls : ℕ → ℕ → List ℕ) (e : ℕ) (f : fits g ≡ tru
 
   -- it is not: the last row is sought, and takes its place
   module _ (q : e < g .m - 1) where
-    last : g .m - 1 < cut .m
+    pub last : g .m - 1 < cut .m
     last = omega (arith, cut-else .edges)
 
-    moved : Net
+    unfoldable pub moved : Net
     moved = led cut (leader cut (left e ls) (g .m - 1) 0) (leader cut (left e ls) (g .m - 1) 1) e e
 
     moved-else : Else cut moved
     unfolding moved
     moved-else = led-else cut (leader cut (left e ls) (g .m - 1) 0) (leader cut (left e ls) (g .m - 1) 1) e e
 
-    moved-is : takenOut g e ≡ served g ls e (lastInto moved e (g .m - 1))
+    pub moved-is : takenOut g e ≡ served g ls e (lastInto moved e (g .m - 1))
     unfolding takenOut gone lastMoved cut moved
     moved-is =
         let l = g .m - 1 in

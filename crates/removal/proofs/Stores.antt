@@ -31,7 +31,7 @@ module _ (heads links : List ℕ) where
   lead-at k (Head a) v h = getD-set-same heads (nodeCell a k) v 0 h
   lead-at k (After p) v h = getD-set-same links (edgeCell p k) v 0 h
 
-  lead-off : (j k : ℕ) (s t : Spot) (v : ℕ) → j < 2 → k < 2 → (j ≡ k → t ≡ s → ⊥)
+  pub lead-off : (j k : ℕ) (s t : Spot) (v : ℕ) → j < 2 → k < 2 → (j ≡ k → t ≡ s → ⊥)
       → linkIn (headsAt j s v heads) (linksAt j s v links) k t ≡ linkIn heads links k t
   unfolding headsAt linksAt
   lead-off j k (Head a) (Head b) v p q d =
@@ -41,12 +41,12 @@ module _ (heads links : List ℕ) where
   lead-off j k (After x) (After y) v p q d =
       getD-set-other links (edgeCell x j) (edgeCell y k) v 0 (λ h. let z : y ≡ x = omega arith in d (omega arith) (ap After z))
 
-heads-length : (heads : List ℕ) (k : ℕ) (s : Spot) (v : ℕ) → length (headsAt k s v heads) ≡ length heads
+pub heads-length : (heads : List ℕ) (k : ℕ) (s : Spot) (v : ℕ) → length (headsAt k s v heads) ≡ length heads
 unfolding headsAt
 heads-length heads k (Head a) v = length-set heads (nodeCell a k) v
 heads-length heads k (After p) v = refl
 
-links-length : (links : List ℕ) (k : ℕ) (s : Spot) (v : ℕ) → length (linksAt k s v links) ≡ length links
+pub links-length : (links : List ℕ) (k : ℕ) (s : Spot) (v : ℕ) → length (linksAt k s v links) ≡ length links
 unfolding linksAt
 links-length links k (Head a) v = refl
 links-length links k (After p) v = length-set links (edgeCell p k) v
@@ -103,11 +103,11 @@ led-else g s t v w =
     }
 
 -- the two cells of row e, in a column of links or of ends
-row-other : (column : List ℕ) (e x y k z : ℕ) → k < 2 → (z ≡ e → ⊥) → cell (set (set column (edgeCell e 0) x) (edgeCell e 1) y) k z ≡ cell column k z
+pub row-other : (column : List ℕ) (e x y k z : ℕ) → k < 2 → (z ≡ e → ⊥) → cell (set (set column (edgeCell e 0) x) (edgeCell e 1) y) k z ≡ cell column k z
 row-other column e x y k z h d =
     other-cell column (edgeCell e 0) (edgeCell e 1) x y (λ q. omega arith) (edgeCell z k) (λ q. d (omega arith)) (λ q. d (omega arith))
 
-row-copied : (column : List ℕ) (e l : ℕ) → edgeCell e 1 < length column → (k : ℕ) → k < 2
+pub row-copied : (column : List ℕ) (e l : ℕ) → edgeCell e 1 < length column → (k : ℕ) → k < 2
     → cell (set (set column (edgeCell e 0) (cell column 0 l)) (edgeCell e 1) (cell column 1 l)) k e ≡ cell column k l
 row-copied column e l room =
     let i = edgeCell e 0 in

@@ -12,7 +12,7 @@ use lib.ListN.{length, take, length-append}
 use Rattle.text.specs.Lines.{lines}
 use Rattle.commands.proofs.Ways.{tested}
 use Rattle.dispatch.specs.Step.{State}
-use Rattle.script.specs.Script.{mostBytes, answers, textOf, Ran, joined, printed, begun, runFrom, run}
+use Rattle.script.specs.Script.{mostBytes, answers, textOf, Ran, printed, begun, runFrom, run}
 
 abbrev Most : ℕ → Ran → Type 0
 Most limit r = length (r .bytes) ≤ limit
@@ -55,6 +55,11 @@ printed-number limit before (text ∷ others) =
 pub run-number : (script : List ℕ) (room : ℕ) → (run script room .number ≡ 0) ⊎ ((run script room .number ≡ 1) ⊎ (run script room .number ≡ 7))
 unfolding run
 run-number script room = tested Told (leb (length script) mostBytes) _ _ (inr (inl refl)) (λ l. printed-number (min room mostBytes) [] (map textOf (answers (lines script) begun)))
+
+-- lines one behind the other
+abbrev joined : List (List ℕ) → List ℕ
+joined [] = []
+joined (text ∷ others) = text ++ joined others
 
 abbrev Front : List ℕ → List (List ℕ) → Ran → Type 0
 Front before texts r = (count : ℕ) × (r .bytes ≡ before ++ joined (take count texts))

@@ -72,11 +72,6 @@ Each P (o ∷ others) = P o × Each P others
 abbrev pub textOf : Replied State → List ℕ
 textOf o = lineOf (o .reply) (o .after .tables .numbers)
 
--- texts one behind the other
-abbrev pub joined : List (List ℕ) → List ℕ
-joined [] = []
-joined (text ∷ others) = text ++ joined others
-
 -- what a run comes to: its answer number and the bytes written
 pub record Ran : Type 0 where
   pub number : ℕ

@@ -1,0 +1,16 @@
+pub mod Vectors
+pub mod Cells
+pub mod Single
+pub mod Adding
+pub mod Finding
+pub mod Iterating
+pub mod Rounds
+pub mod Walking
+pub mod Mutable
+pub mod Stepping
+pub mod Leading
+pub mod Taking
+pub mod Emptying
+pub mod Renumbering
+pub mod Closing
+pub mod Gathered

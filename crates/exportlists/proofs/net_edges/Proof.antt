@@ -1,0 +1,13 @@
+-- `net_edges` meets its contract: what the call answers is passed on. Assumes nothing.
+use borrow.Author.Needs.{needs}
+use Rattle.cells.proofs.Laws.{passed-on}
+use Rattle.exportlists.proofs.net_edges.Statement.{statement}
+use Rattle.exportlists.proofs.net_edges.Tie as tie
+
+returns : tie.Need-returns
+returns c = passed-on (c .tell-items .ensures) (c .before .before .before .before .before .before .before .before .edges .ensures)
+
+pub net-edges-spec : {M : Type 1} → statement M
+net-edges-spec =
+    tie.close
+    (tie.spec (λ c κs. search needs) (λ c κs. search needs) (λ c. search needs) (λ c. search needs) (λ c. search needs) returns)

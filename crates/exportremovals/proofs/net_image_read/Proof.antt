@@ -1,0 +1,21 @@
+-- `net_image_read` meets its contract: what the call answers is passed on. Assumes nothing.
+use borrow.Author.Needs.{needs}
+use Rattle.cells.proofs.Laws.{passed-on}
+use Rattle.exportremovals.proofs.net_image_read.Statement.{statement}
+use Rattle.exportremovals.proofs.net_image_read.Tie as tie
+
+returns : tie.Need-returns
+returns c = passed-on (c .tell-change .ensures) (c .before .before .before .before .before .before .before .before .before .before .image-read .ensures)
+
+pub net-image-read-spec : {M : Type 1} → statement M
+net-image-read-spec =
+    tie.close
+    (tie.spec
+    (λ c κs. search needs)
+    (λ c κs. search needs)
+    (λ c. search needs)
+    (λ c. search needs)
+    (λ c. search needs)
+    (λ c. search needs)
+    (λ c. search needs)
+    returns)

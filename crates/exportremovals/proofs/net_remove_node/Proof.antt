@@ -1,0 +1,22 @@
+-- `net_remove_node` meets its contract: what the call answers is passed on. Assumes nothing.
+use borrow.Author.Needs.{needs}
+use Rattle.cells.proofs.Laws.{passed-on}
+use Rattle.exportremovals.proofs.net_remove_node.Statement.{statement}
+use Rattle.exportremovals.proofs.net_remove_node.Tie as tie
+
+returns : tie.Need-returns
+returns c = passed-on (c .tell-node-removed .ensures) (c .before .before .before .before .before .before .before .before .before .before .before .before .before .before .before .remove-node .ensures)
+
+pub net-remove-node-spec : {M : Type 1} → statement M
+net-remove-node-spec =
+    tie.close
+    (tie.spec
+    (λ c κs. search needs)
+    (λ c κs. search needs)
+    (λ c. search needs)
+    (λ c. search needs)
+    (λ c. search needs)
+    (λ c. search needs)
+    (λ c. search needs)
+    (λ c. search needs)
+    returns)

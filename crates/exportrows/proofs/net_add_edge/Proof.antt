@@ -1,0 +1,20 @@
+-- `net_add_edge` meets its contract: what the call answers is passed on. Assumes nothing.
+use borrow.Author.Needs.{needs}
+use Rattle.cells.proofs.Laws.{passed-on}
+use Rattle.exportrows.proofs.net_add_edge.Statement.{statement}
+use Rattle.exportrows.proofs.net_add_edge.Tie as tie
+
+returns : tie.Need-returns
+returns c = passed-on (c .tell-edge .ensures) (c .before .before .before .before .before .before .before .before .before .before .add-edge .ensures)
+
+pub net-add-edge-spec : {M : Type 1} → statement M
+net-add-edge-spec =
+    tie.close
+    (tie.spec
+    (λ c κs. search needs)
+    (λ c κs. search needs)
+    (λ c. search needs)
+    (λ c. search needs)
+    (λ c. search needs)
+    (λ c. search needs)
+    returns)

@@ -1,0 +1,20 @@
+-- `net_clear_edges` meets its contract: what the call answers is passed on. Assumes nothing.
+use borrow.Author.Needs.{needs}
+use Rattle.cells.proofs.Laws.{passed-on}
+use Rattle.exportrows.proofs.net_clear_edges.Statement.{statement}
+use Rattle.exportrows.proofs.net_clear_edges.Tie as tie
+
+returns : tie.Need-returns
+returns c = passed-on (c .tell-change .ensures) (c .before .before .before .before .before .before .before .before .before .clear-edges .ensures)
+
+pub net-clear-edges-spec : {M : Type 1} → statement M
+net-clear-edges-spec =
+    tie.close
+    (tie.spec
+    (λ c κs. search needs)
+    (λ c κs. search needs)
+    (λ c. search needs)
+    (λ c. search needs)
+    (λ c. search needs)
+    (λ c. search needs)
+    returns)

@@ -1,0 +1,4 @@
+pub mod Std
+pub mod Rust
+pub mod Iterators
+pub mod Recorded

@@ -1,0 +1,1 @@
+// graph.rs as definitions, and a sample recorded from it that they compute to. There is nothing to run.

@@ -1,0 +1,265 @@
+/* The waterway network: the calls of the proved library for C and its like.
+
+   A network is five tables and two counts, which the caller lends to each call:
+     weights    one cell a node row: its total
+     heads      two cells a node row: the first edge of its outgoing and of its incoming list
+     registers  one cell an edge row: its register number
+     links      two cells an edge row: the next edge of its source's outgoing and of its target's incoming list
+     ends       two cells an edge row: its source and its target
+     n, m       how many rows of each kind are in use; by pointer where the call changes them
+   Each table goes in as a pointer and its number of cells. A call takes every table, count and number: what it
+   cannot serve it refuses. What C itself must hold to: each pointer is valid for its cells and is not null, also
+   for 0 cells, and nothing lent to one call overlaps.
+
+   Every call returns an answer number; its values are left in the cells that are its last parameters. A refusal
+   leaves zeros in these and changes no table, count, walker or output, except where its call says so. The numbers
+   that a call can be refused by end its comment, in the order of the tests. An output keeps its cells past the
+   items given. */
+#ifndef WATERWAYS_H
+#define WATERWAYS_H
+
+#include <stddef.h>
+#include <stdint.h>
+
+#ifdef __cplusplus
+extern "C" {
+#endif
+
+enum net_answer {
+    NET_DONE = 0,
+    NET_TABLES = 1,      /* rows above the limit, n or m above the rows lent, tables that disagree in rows; a script too long */
+    NET_FULL = 2,        /* no row for one more; image counts above the rows lent */
+    NET_NO_NODE = 3,     /* the named node is not below n */
+    NET_NO_EDGE = 4,     /* the named edge is not below m */
+    NET_NOTHING = 5,     /* nothing found; NET_END at a first or next edge; a walker at its end */
+    NET_BROKEN = 6,      /* broken links */
+    NET_SHORT = 7,       /* the output holds fewer items than the answer needs */
+    NET_NOT_IMAGE = 8,   /* an image that is too short, has a wrong mark or a wrong length */
+    NET_VERSION = 9,     /* an image of an unknown version */
+    NET_NOT_COMMAND = 10 /* a script line that is no command */
+};
+
+/* No row: the end of a list, and what a vacant row holds in its links and ends. Its weight is 0. */
+#define NET_END UINT32_MAX
+
+/* The most rows of each kind, and the cells that a row has in heads, and in links and ends. */
+#define NET_NODE_ROWS 16384
+#define NET_EDGE_ROWS 65536
+#define NET_NODE_CELLS 2
+#define NET_EDGE_CELLS 2
+
+/* Rows: looked up, set, added, listed, cleared (libexportrows.a) */
+
+/* The weight of node a. Refused 1, 3. */
+uint32_t net_node_weight(
+    const int32_t *weights, size_t weights_len, const uint32_t *heads, size_t heads_len,
+    const uint32_t *registers, size_t registers_len, const uint32_t *links, size_t links_len,
+    const uint32_t *ends, size_t ends_len, uint32_t n, uint32_t m, uint32_t a, int32_t *weight);
+
+/* The weight (register number) of edge e. Refused 1, 4. */
+uint32_t net_edge_weight(
+    const int32_t *weights, size_t weights_len, const uint32_t *heads, size_t heads_len,
+    const uint32_t *registers, size_t registers_len, const uint32_t *links, size_t links_len,
+    const uint32_t *ends, size_t ends_len, uint32_t n, uint32_t m, uint32_t e, uint32_t *weight);
+
+/* Source and target of edge e. Refused 1, 4. */
+uint32_t net_edge_endpoints(
+    const int32_t *weights, size_t weights_len, const uint32_t *heads, size_t heads_len,
+    const uint32_t *registers, size_t registers_len, const uint32_t *links, size_t links_len,
+    const uint32_t *ends, size_t ends_len, uint32_t n, uint32_t m, uint32_t e, uint32_t *source,
+    uint32_t *target);
+
+/* The first edge of node a in a direction: 0 outgoing, any other number incoming. A link past m is given as
+   it is; NET_END is 5. Refused 1, 3, 5. */
+uint32_t net_first_edge(
+    const int32_t *weights, size_t weights_len, const uint32_t *heads, size_t heads_len,
+    const uint32_t *registers, size_t registers_len, const uint32_t *links, size_t links_len,
+    const uint32_t *ends, size_t ends_len, uint32_t n, uint32_t m, uint32_t a, uint32_t direction,
+    uint32_t *edge);
+
+/* The edge after edge e in a direction. Refused 1, 4, 5. */
+uint32_t net_next_edge(
+    const int32_t *weights, size_t weights_len, const uint32_t *heads, size_t heads_len,
+    const uint32_t *registers, size_t registers_len, const uint32_t *links, size_t links_len,
+    const uint32_t *ends, size_t ends_len, uint32_t n, uint32_t m, uint32_t e, uint32_t direction,
+    uint32_t *edge);
+
+/* Sets the weight of node a. Refused 1, 3. */
+uint32_t net_set_node_weight(
+    int32_t *weights, size_t weights_len, const uint32_t *heads, size_t heads_len,
+    const uint32_t *registers, size_t registers_len, const uint32_t *links, size_t links_len,
+    const uint32_t *ends, size_t ends_len, uint32_t n, uint32_t m, uint32_t a, int32_t w);
+
+/* Sets the weight of edge e. Refused 1, 4. */
+uint32_t net_set_edge_weight(
+    const int32_t *weights, size_t weights_len, const uint32_t *heads, size_t heads_len,
+    uint32_t *registers, size_t registers_len, const uint32_t *links, size_t links_len,
+    const uint32_t *ends, size_t ends_len, uint32_t n, uint32_t m, uint32_t e, uint32_t w);
+
+/* One more node of weight w; its number. Refused 1, 2. */
+uint32_t net_add_node(
+    int32_t *weights, size_t weights_len, uint32_t *heads, size_t heads_len,
+    const uint32_t *registers, size_t registers_len, const uint32_t *links, size_t links_len,
+    const uint32_t *ends, size_t ends_len, uint32_t *n, uint32_t m, int32_t w, uint32_t *node);
+
+/* One more edge from a to b; its number. It stands first in both its lists. Refused 1, 2, 3. */
+uint32_t net_add_edge(
+    const int32_t *weights, size_t weights_len, uint32_t *heads, size_t heads_len,
+    uint32_t *registers, size_t registers_len, uint32_t *links, size_t links_len,
+    uint32_t *ends, size_t ends_len, uint32_t n, uint32_t *m, uint32_t a, uint32_t b, uint32_t w,
+    uint32_t *edge);
+
+/* The weights of all edges, in row order; how many. Reads no list. Refused 1, 7. */
+uint32_t net_all_edge_weights(
+    const int32_t *weights, size_t weights_len, const uint32_t *heads, size_t heads_len,
+    const uint32_t *registers, size_t registers_len, const uint32_t *links, size_t links_len,
+    const uint32_t *ends, size_t ends_len, uint32_t n, uint32_t m, uint32_t *items, size_t items_len,
+    uint32_t *count);
+
+/* Takes out all edges; their rows become vacant. Refused 1. */
+uint32_t net_clear_edges(
+    const int32_t *weights, size_t weights_len, uint32_t *heads, size_t heads_len,
+    uint32_t *registers, size_t registers_len, uint32_t *links, size_t links_len,
+    uint32_t *ends, size_t ends_len, uint32_t n, uint32_t *m);
+
+/* Takes out all nodes and edges; their rows become vacant. Refused 1. */
+uint32_t net_clear(
+    int32_t *weights, size_t weights_len, uint32_t *heads, size_t heads_len,
+    uint32_t *registers, size_t registers_len, uint32_t *links, size_t links_len,
+    uint32_t *ends, size_t ends_len, uint32_t *n, uint32_t *m);
+
+/* Lists: walks, searches, the walker, the sum, the check (libexportlists.a) */
+
+/* The neighbours of node a: its outgoing list, then its incoming one without self-loops; how many. Parallel
+   edges repeat. A missing node has none. Refused 1, 6, 7. */
+uint32_t net_neighbors(
+    const int32_t *weights, size_t weights_len, const uint32_t *heads, size_t heads_len,
+    const uint32_t *registers, size_t registers_len, const uint32_t *links, size_t links_len,
+    const uint32_t *ends, size_t ends_len, uint32_t n, uint32_t m, uint32_t a,
+    uint32_t *items, size_t items_len, uint32_t *count);
+
+/* The weights of the edges of the neighbour walk; how many. Refused 1, 6, 7. */
+uint32_t net_edge_weights(
+    const int32_t *weights, size_t weights_len, const uint32_t *heads, size_t heads_len,
+    const uint32_t *registers, size_t registers_len, const uint32_t *links, size_t links_len,
+    const uint32_t *ends, size_t ends_len, uint32_t n, uint32_t m, uint32_t a,
+    uint32_t *items, size_t items_len, uint32_t *count);
+
+/* The numbers of the edges of the neighbour walk whose far end is b; how many. Refused 1, 6, 7. */
+uint32_t net_edges_between(
+    const int32_t *weights, size_t weights_len, const uint32_t *heads, size_t heads_len,
+    const uint32_t *registers, size_t registers_len, const uint32_t *links, size_t links_len,
+    const uint32_t *ends, size_t ends_len, uint32_t n, uint32_t m, uint32_t a, uint32_t b,
+    uint32_t *items, size_t items_len, uint32_t *count);
+
+/* The numbers of the edges of node a, incoming ones first; how many. A self-loop comes twice. Refused 1, 6,
+   7. */
+uint32_t net_edges_mut(
+    const int32_t *weights, size_t weights_len, const uint32_t *heads, size_t heads_len,
+    const uint32_t *registers, size_t registers_len, const uint32_t *links, size_t links_len,
+    const uint32_t *ends, size_t ends_len, uint32_t n, uint32_t m, uint32_t a,
+    uint32_t *items, size_t items_len, uint32_t *count);
+
+/* The rows of graph.rs's mutable weights: the numbers of net_edges_mut. Refused 1, 6, 7. */
+uint32_t net_edge_weights_mut(
+    const int32_t *weights, size_t weights_len, const uint32_t *heads, size_t heads_len,
+    const uint32_t *registers, size_t registers_len, const uint32_t *links, size_t links_len,
+    const uint32_t *ends, size_t ends_len, uint32_t n, uint32_t m, uint32_t a,
+    uint32_t *items, size_t items_len, uint32_t *count);
+
+/* Number, source and target of each edge of the neighbour walk, the ends of incoming ones turned round; how
+   many. Refused 1, 6, 7. */
+uint32_t net_edges(
+    const int32_t *weights, size_t weights_len, const uint32_t *heads, size_t heads_len,
+    const uint32_t *registers, size_t registers_len, const uint32_t *links, size_t links_len,
+    const uint32_t *ends, size_t ends_len, uint32_t n, uint32_t m, uint32_t a,
+    uint32_t *numbers, size_t numbers_len, uint32_t *sources, size_t sources_len,
+    uint32_t *targets, size_t targets_len, uint32_t *count);
+
+/* The first edge of a whose far end is b: the outgoing list, then the incoming one. Refused 1, 3 (node a
+   only), 5, 6. */
+uint32_t net_find_edge(
+    const int32_t *weights, size_t weights_len, const uint32_t *heads, size_t heads_len,
+    const uint32_t *registers, size_t registers_len, const uint32_t *links, size_t links_len,
+    const uint32_t *ends, size_t ends_len, uint32_t n, uint32_t m, uint32_t a, uint32_t b, uint32_t *edge);
+
+/* 1 where there is such an edge, else 0; a missing node has none. Refused 1, 6. */
+uint32_t net_contains_edge(
+    const int32_t *weights, size_t weights_len, const uint32_t *heads, size_t heads_len,
+    const uint32_t *registers, size_t registers_len, const uint32_t *links, size_t links_len,
+    const uint32_t *ends, size_t ends_len, uint32_t n, uint32_t m, uint32_t a, uint32_t b, uint32_t *found);
+
+/* Sets the weight of the edge that is found, even in a full table; else adds one. Its number. Refused 1, 6,
+   2, 3. */
+uint32_t net_update_edge(
+    const int32_t *weights, size_t weights_len, uint32_t *heads, size_t heads_len,
+    uint32_t *registers, size_t registers_len, uint32_t *links, size_t links_len,
+    uint32_t *ends, size_t ends_len, uint32_t n, uint32_t *m, uint32_t a, uint32_t b, uint32_t w,
+    uint32_t *edge);
+
+/* The sum of the weights of the neighbours of node a, negative kept. Refused 1, 3, 6. */
+uint32_t net_sum_around(
+    const int32_t *weights, size_t weights_len, const uint32_t *heads, size_t heads_len,
+    const uint32_t *registers, size_t registers_len, const uint32_t *links, size_t links_len,
+    const uint32_t *ends, size_t ends_len, uint32_t n, uint32_t m, uint32_t a, int64_t *sum);
+
+/* The check: accepts exactly the sound networks, and gives the rows read, 2 m. At 6 it gives direction and
+   node of the first fault, node n where some edge is in no list. Refused 1, 6. */
+uint32_t net_check(
+    const int32_t *weights, size_t weights_len, const uint32_t *heads, size_t heads_len,
+    const uint32_t *registers, size_t registers_len, const uint32_t *links, size_t links_len,
+    const uint32_t *ends, size_t ends_len, uint32_t n, uint32_t m, uint32_t *rows, uint32_t *direction,
+    uint32_t *node);
+
+/* A walker is three numbers: the node where it started, its next outgoing and its next incoming edge.
+   A walker at the heads of node a's two lists. A missing node's is at its end. Refused 1. */
+uint32_t net_walker_new(
+    const int32_t *weights, size_t weights_len, const uint32_t *heads, size_t heads_len,
+    const uint32_t *registers, size_t registers_len, const uint32_t *links, size_t links_len,
+    const uint32_t *ends, size_t ends_len, uint32_t n, uint32_t m, uint32_t a, uint32_t walker[3]);
+
+/* The walker, moved on by one neighbour. At 5 it stands where the Rust's stands, at 6 and at 1 it is as it
+   was. Refused 1, 5, 6. */
+uint32_t net_walker_next(
+    const int32_t *weights, size_t weights_len, const uint32_t *heads, size_t heads_len,
+    const uint32_t *registers, size_t registers_len, const uint32_t *links, size_t links_len,
+    const uint32_t *ends, size_t ends_len, uint32_t n, uint32_t m, uint32_t walker[3], uint32_t *neighbor);
+
+/* Removals and images (libexportremovals.a) */
+
+/* Takes out edge e: its weight, the old number of the row that moved into its place (NET_END where none
+   did), the rows read. Refused 1, 4, 6. */
+uint32_t net_remove_edge(
+    const int32_t *weights, size_t weights_len, uint32_t *heads, size_t heads_len,
+    uint32_t *registers, size_t registers_len, uint32_t *links, size_t links_len,
+    uint32_t *ends, size_t ends_len, uint32_t n, uint32_t *m, uint32_t e, uint32_t *weight, uint32_t *moved,
+    uint32_t *rows);
+
+/* Takes out node a with its edges; the last node takes its place. Its weight, the rows read, and how many
+   edge weights stand in items. Only a sound network is changed. Refused 1, 3, 6, 7. */
+uint32_t net_remove_node(
+    int32_t *weights, size_t weights_len, uint32_t *heads, size_t heads_len,
+    uint32_t *registers, size_t registers_len, uint32_t *links, size_t links_len,
+    uint32_t *ends, size_t ends_len, uint32_t *n, uint32_t *m, uint32_t a, uint32_t *items, size_t items_len,
+    int32_t *weight, uint64_t *rows, uint32_t *count);
+
+/* The image of a sound network at the front of bytes; its length, 13 + 12 n + 20 m. Refused 1, 6, 7. */
+uint32_t net_image_write(
+    const int32_t *weights, size_t weights_len, const uint32_t *heads, size_t heads_len,
+    const uint32_t *registers, size_t registers_len, const uint32_t *links, size_t links_len,
+    const uint32_t *ends, size_t ends_len, uint32_t n, uint32_t m, uint8_t *bytes, size_t bytes_len,
+    uint32_t *length);
+
+/* The network that an image has, in place of the one lent; rows past its counts become vacant. A network
+   that is not sound is refused 6 and leaves all rows vacant, n = m = 0. Refused 1, 8 (short or mark), 9, 2, 8
+   (length), 6. */
+uint32_t net_image_read(
+    int32_t *weights, size_t weights_len, uint32_t *heads, size_t heads_len,
+    uint32_t *registers, size_t registers_len, uint32_t *links, size_t links_len,
+    uint32_t *ends, size_t ends_len, uint32_t *n, uint32_t *m, const uint8_t *bytes, size_t bytes_len);
+
+#ifdef __cplusplus
+}
+#endif
+
+#endif

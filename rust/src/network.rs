@@ -1,0 +1,437 @@
+//! A network that owns its tables.
+
+use crate::calls;
+use crate::{EDGE_ROWS, END, EdgeDirection, EdgeIndex, NODE_ROWS, NodeIndex, Refusal};
+
+/// The five tables and the two counts. A row that is not in use is vacant: weight 0, and [`END`] in
+/// every link and end.
+#[derive(Clone, Debug, PartialEq, Eq)]
+pub struct Tables {
+    /// One cell a node row: its weight.
+    pub weights: Vec<i32>,
+    /// Two cells a node row: the first edge of its outgoing and of its incoming list.
+    pub heads: Vec<u32>,
+    /// One cell an edge row: its weight, a register number.
+    pub registers: Vec<u32>,
+    /// Two cells an edge row: the next edge of its source's outgoing and of its target's incoming list.
+    pub links: Vec<u32>,
+    /// Two cells an edge row: its source and its target.
+    pub ends: Vec<u32>,
+    /// How many node rows are in use.
+    pub n: u32,
+    /// How many edge rows are in use.
+    pub m: u32,
+}
+
+/// An edge that was taken out.
+#[derive(Clone, Copy, Debug, PartialEq, Eq)]
+pub struct EdgeRemoved {
+    pub weight: u32,
+    /// The old number of the row that took its place, if one did.
+    pub moved: Option<EdgeIndex>,
+    /// The edge rows read.
+    pub rows: u32,
+}
+
+/// A node that was taken out.
+#[derive(Clone, Copy, Debug, PartialEq, Eq)]
+pub struct NodeRemoved {
+    pub weight: i32,
+    /// The edge rows read, those of the check aside.
+    pub rows: u64,
+}
+
+/// Where a network is not sound.
+#[derive(Clone, Copy, Debug, PartialEq, Eq)]
+pub enum Fault {
+    /// The first fault. The node is the node count where some edge is in no list of that direction.
+    At(EdgeDirection, NodeIndex),
+    /// The tables do not fit.
+    Tables,
+}
+
+/// Where a walk around a node stands. It is lent to each step, and takes no hold of the network.
+#[derive(Clone, Copy, Debug, PartialEq, Eq)]
+pub struct Walker([u32; 3]);
+
+/// A network of waterways, with the names of `UnGraph`.
+#[derive(Clone, Debug, PartialEq, Eq)]
+pub struct Network(Tables);
+
+/// A call that changes no table.
+macro_rules! ask {
+    ($network:expr, $call:ident($($argument:expr),*)) => {{
+        let t = &$network.0;
+        // SAFETY: each table is lent with its own length, and outputs are no part of a table. Lengths and
+        // counts need not agree: the call tests them before it reads.
+        Refusal::of(unsafe {
+            calls::$call(
+                t.weights.as_ptr(),
+                t.weights.len(),
+                t.heads.as_ptr(),
+                t.heads.len(),
+                t.registers.as_ptr(),
+                t.registers.len(),
+                t.links.as_ptr(),
+                t.links.len(),
+                t.ends.as_ptr(),
+                t.ends.len(),
+                t.n,
+                t.m,
+                $($argument),*
+            )
+        })
+    }};
+}
+
+/// A call that changes some.
+macro_rules! change {
+    ($t:ident, $call:ident($($argument:expr),*)) => {
+        // SAFETY: as above; and `$t` is held by `&mut`, so nobody else reads or changes its tables meanwhile.
+        Refusal::of(unsafe {
+            calls::$call(
+                $t.weights.as_mut_ptr(),
+                $t.weights.len(),
+                $t.heads.as_mut_ptr(),
+                $t.heads.len(),
+                $t.registers.as_mut_ptr(),
+                $t.registers.len(),
+                $t.links.as_mut_ptr(),
+                $t.links.len(),
+                $t.ends.as_mut_ptr(),
+                $t.ends.len(),
+                $($argument),*
+            )
+        })
+    };
+}
+
+impl Network {
+    /// An empty network with room for so many nodes and edges.
+    pub fn with_rows(nodes: usize, edges: usize) -> Result<Network, Refusal> {
+        if nodes > NODE_ROWS || edges > EDGE_ROWS {
+            return Err(Refusal::Tables);
+        }
+        Ok(Network(Tables {
+            weights: vec![0; nodes],
+            heads: vec![END; 2 * nodes],
+            registers: vec![0; edges],
+            links: vec![END; 2 * edges],
+            ends: vec![END; 2 * edges],
+            n: 0,
+            m: 0,
+        }))
+    }
+
+    /// A network on tables that may hold anything. What a call cannot serve on them it refuses.
+    pub fn from_tables(tables: Tables) -> Network {
+        Network(tables)
+    }
+
+    /// The tables as they are.
+    pub fn tables(&self) -> &Tables {
+        &self.0
+    }
+
+    /// How many nodes there are.
+    pub fn node_count(&self) -> usize {
+        self.0.n as usize
+    }
+
+    /// How many edges there are.
+    pub fn edge_count(&self) -> usize {
+        self.0.m as usize
+    }
+
+    /// One more node.
+    pub fn add_node(&mut self, weight: i32) -> Result<NodeIndex, Refusal> {
+        let (t, mut node) = (&mut self.0, 0);
+        change!(t, net_add_node(&mut t.n, t.m, weight, &mut node))?;
+        Ok(NodeIndex(node))
+    }
+
+    /// The weight of a node.
+    pub fn node_weight(&self, a: NodeIndex) -> Result<i32, Refusal> {
+        let mut weight = 0;
+        ask!(self, net_node_weight(a.0, &mut weight))?;
+        Ok(weight)
+    }
+
+    /// Sets the weight of a node.
+    pub fn set_node_weight(&mut self, a: NodeIndex, weight: i32) -> Result<(), Refusal> {
+        let t = &mut self.0;
+        change!(t, net_set_node_weight(t.n, t.m, a.0, weight))
+    }
+
+    /// One more edge, from `a` to `b`.
+    pub fn add_edge(
+        &mut self,
+        a: NodeIndex,
+        b: NodeIndex,
+        weight: u32,
+    ) -> Result<EdgeIndex, Refusal> {
+        let (t, mut edge) = (&mut self.0, 0);
+        change!(t, net_add_edge(t.n, &mut t.m, a.0, b.0, weight, &mut edge))?;
+        Ok(EdgeIndex(edge))
+    }
+
+    /// Sets the weight of the edge between `a` and `b`, or adds one.
+    pub fn update_edge(
+        &mut self,
+        a: NodeIndex,
+        b: NodeIndex,
+        weight: u32,
+    ) -> Result<EdgeIndex, Refusal> {
+        let (t, mut edge) = (&mut self.0, 0);
+        change!(
+            t,
+            net_update_edge(t.n, &mut t.m, a.0, b.0, weight, &mut edge)
+        )?;
+        Ok(EdgeIndex(edge))
+    }
+
+    /// The weight of an edge.
+    pub fn edge_weight(&self, e: EdgeIndex) -> Result<u32, Refusal> {
+        let mut weight = 0;
+        ask!(self, net_edge_weight(e.0, &mut weight))?;
+        Ok(weight)
+    }
+
+    /// Sets the weight of an edge.
+    pub fn set_edge_weight(&mut self, e: EdgeIndex, weight: u32) -> Result<(), Refusal> {
+        let t = &mut self.0;
+        change!(t, net_set_edge_weight(t.n, t.m, e.0, weight))
+    }
+
+    /// Source and target of an edge.
+    pub fn edge_endpoints(&self, e: EdgeIndex) -> Result<(NodeIndex, NodeIndex), Refusal> {
+        let (mut source, mut target) = (0, 0);
+        ask!(self, net_edge_endpoints(e.0, &mut source, &mut target))?;
+        Ok((NodeIndex(source), NodeIndex(target)))
+    }
+
+    /// The first edge of a node's list; [`Refusal::Nothing`] where it is empty.
+    pub fn first_edge(&self, a: NodeIndex, dir: EdgeDirection) -> Result<EdgeIndex, Refusal> {
+        let mut edge = 0;
+        ask!(self, net_first_edge(a.0, dir as u32, &mut edge))?;
+        Ok(EdgeIndex(edge))
+    }
+
+    /// The edge after an edge; [`Refusal::Nothing`] where it is the last.
+    pub fn next_edge(&self, e: EdgeIndex, dir: EdgeDirection) -> Result<EdgeIndex, Refusal> {
+        let mut edge = 0;
+        ask!(self, net_next_edge(e.0, dir as u32, &mut edge))?;
+        Ok(EdgeIndex(edge))
+    }
+
+    /// The first edge of `a` whose far end is `b`; [`Refusal::Nothing`] where there is none.
+    pub fn find_edge(&self, a: NodeIndex, b: NodeIndex) -> Result<EdgeIndex, Refusal> {
+        let mut edge = 0;
+        ask!(self, net_find_edge(a.0, b.0, &mut edge))?;
+        Ok(EdgeIndex(edge))
+    }
+
+    /// Whether there is an edge between `a` and `b`. A missing node has none.
+    pub fn contains_edge(&self, a: NodeIndex, b: NodeIndex) -> Result<bool, Refusal> {
+        let mut found = 0;
+        ask!(self, net_contains_edge(a.0, b.0, &mut found))?;
+        Ok(found == 1)
+    }
+
+    /// The neighbours of a node: along its outgoing list, then along its incoming one without self-loops.
+    pub fn neighbors(&self, a: NodeIndex) -> Result<Vec<NodeIndex>, Refusal> {
+        let rows = grown(|at, length, count| ask!(self, net_neighbors(a.0, at, length, count)))?;
+        Ok(rows.into_iter().map(NodeIndex).collect())
+    }
+
+    /// The same into a table that may be too short; how many.
+    pub fn neighbors_into(&self, a: NodeIndex, items: &mut [u32]) -> Result<usize, Refusal> {
+        let (at, length, mut count) = (items.as_mut_ptr(), items.len(), 0);
+        ask!(self, net_neighbors(a.0, at, length, &mut count))?;
+        Ok(count as usize)
+    }
+
+    /// The weights of the edges of the neighbour walk.
+    pub fn edge_weights(&self, a: NodeIndex) -> Result<Vec<u32>, Refusal> {
+        grown(|at, length, count| ask!(self, net_edge_weights(a.0, at, length, count)))
+    }
+
+    /// The edges of the neighbour walk whose far end is `b`.
+    pub fn edges_between(&self, a: NodeIndex, b: NodeIndex) -> Result<Vec<EdgeIndex>, Refusal> {
+        let rows =
+            grown(|at, length, count| ask!(self, net_edges_between(a.0, b.0, at, length, count)))?;
+        Ok(rows.into_iter().map(EdgeIndex).collect())
+    }
+
+    /// The edges of a node, incoming ones first; a self-loop comes twice.
+    pub fn edges_mut(&self, a: NodeIndex) -> Result<Vec<EdgeIndex>, Refusal> {
+        let rows = grown(|at, length, count| ask!(self, net_edges_mut(a.0, at, length, count)))?;
+        Ok(rows.into_iter().map(EdgeIndex).collect())
+    }
+
+    /// The edges whose weights `UnGraph` hands out to be changed: those of [`Network::edges_mut`].
+    pub fn edge_weights_mut(&self, a: NodeIndex) -> Result<Vec<EdgeIndex>, Refusal> {
+        let rows =
+            grown(|at, length, count| ask!(self, net_edge_weights_mut(a.0, at, length, count)))?;
+        Ok(rows.into_iter().map(EdgeIndex).collect())
+    }
+
+    /// Number, source and target of each edge of the neighbour walk, the ends of incoming ones turned round.
+    pub fn edges(&self, a: NodeIndex) -> Result<Vec<(EdgeIndex, NodeIndex, NodeIndex)>, Refusal> {
+        // Three tables of one length: the first is the one that grows.
+        let (mut sources, mut targets) = (Vec::new(), Vec::new());
+        let numbers = grown(|numbers, length, count| {
+            (sources, targets) = (vec![0; length], vec![0; length]);
+            let (source, target) = (sources.as_mut_ptr(), targets.as_mut_ptr());
+            ask!(
+                self,
+                net_edges(a.0, numbers, length, source, length, target, length, count)
+            )
+        })?;
+        let ends = sources.into_iter().zip(targets);
+        let edges = numbers.into_iter().zip(ends);
+        Ok(edges
+            .map(|(e, (a, b))| (EdgeIndex(e), NodeIndex(a), NodeIndex(b)))
+            .collect())
+    }
+
+    /// The weights of all edges, in row order.
+    pub fn all_edge_weights(&self) -> Result<Vec<u32>, Refusal> {
+        let mut items = vec![0; self.edge_count().min(self.0.registers.len())];
+        let mut count = 0;
+        ask!(
+            self,
+            net_all_edge_weights(items.as_mut_ptr(), items.len(), &mut count)
+        )?;
+        Ok(items)
+    }
+
+    /// A walker at the heads of a node's two lists; [`Network::step`] moves it on.
+    pub fn walker(&self, a: NodeIndex) -> Result<Walker, Refusal> {
+        let mut walker = [0; 3];
+        ask!(self, net_walker_new(a.0, &mut walker))?;
+        Ok(Walker(walker))
+    }
+
+    /// The next neighbour; [`Refusal::Nothing`] where the walker is at its end.
+    pub fn step(&self, walker: &mut Walker) -> Result<NodeIndex, Refusal> {
+        let mut neighbor = 0;
+        ask!(self, net_walker_next(&mut walker.0, &mut neighbor))?;
+        Ok(NodeIndex(neighbor))
+    }
+
+    /// The sum of the weights of a node's neighbours.
+    pub fn sum_around(&self, a: NodeIndex) -> Result<i64, Refusal> {
+        let mut sum = 0;
+        ask!(self, net_sum_around(a.0, &mut sum))?;
+        Ok(sum)
+    }
+
+    /// Whether the network is sound: the rows read, or its first fault.
+    pub fn check(&self) -> Result<u32, Fault> {
+        let (mut rows, mut direction, mut node) = (0, 0, 0);
+        let answer = ask!(self, net_check(&mut rows, &mut direction, &mut node));
+        match answer {
+            Ok(()) => Ok(rows),
+            Err(Refusal::Broken) if direction == 0 => {
+                Err(Fault::At(EdgeDirection::Outgoing, NodeIndex(node)))
+            }
+            Err(Refusal::Broken) => Err(Fault::At(EdgeDirection::Incoming, NodeIndex(node))),
+            Err(_) => Err(Fault::Tables),
+        }
+    }
+
+    /// Takes out an edge; the last row takes its place.
+    pub fn remove_edge(&mut self, e: EdgeIndex) -> Result<EdgeRemoved, Refusal> {
+        let (mut weight, mut moved, mut rows) = (0, 0, 0);
+        let t = &mut self.0;
+        change!(
+            t,
+            net_remove_edge(t.n, &mut t.m, e.0, &mut weight, &mut moved, &mut rows)
+        )?;
+        let moved = (moved != END).then_some(EdgeIndex(moved));
+        Ok(EdgeRemoved {
+            weight,
+            moved,
+            rows,
+        })
+    }
+
+    /// Takes out a node with its edges, whose weights go to `edge_callback`; the last node takes its place.
+    pub fn remove_node_with<F>(
+        &mut self,
+        a: NodeIndex,
+        edge_callback: F,
+    ) -> Result<NodeRemoved, Refusal>
+    where
+        F: FnMut(u32),
+    {
+        let (mut weight, mut rows) = (0, 0);
+        let t = &mut self.0;
+        let weights = grown(|at, length, count| {
+            let (n, m) = (&mut t.n, &mut t.m);
+            change!(
+                t,
+                net_remove_node(n, m, a.0, at, length, &mut weight, &mut rows, count)
+            )
+        })?;
+        weights.into_iter().for_each(edge_callback);
+        Ok(NodeRemoved { weight, rows })
+    }
+
+    /// Takes out all nodes and edges.
+    pub fn clear(&mut self) -> Result<(), Refusal> {
+        let t = &mut self.0;
+        change!(t, net_clear(&mut t.n, &mut t.m))
+    }
+
+    /// Takes out all edges.
+    pub fn clear_edges(&mut self) -> Result<(), Refusal> {
+        let t = &mut self.0;
+        change!(t, net_clear_edges(t.n, &mut t.m))
+    }
+
+    /// The network as an image.
+    pub fn image_write(&self) -> Result<Vec<u8>, Refusal> {
+        let nodes = self.node_count().min(self.0.weights.len());
+        let edges = self.edge_count().min(self.0.registers.len());
+        let mut bytes = vec![0; 13 + 12 * nodes + 20 * edges];
+        let mut length = 0;
+        ask!(
+            self,
+            net_image_write(bytes.as_mut_ptr(), bytes.len(), &mut length)
+        )?;
+        Ok(bytes)
+    }
+
+    /// The network that an image has, in place of this one. One with broken links leaves this one empty.
+    pub fn image_read(&mut self, bytes: &[u8]) -> Result<(), Refusal> {
+        let t = &mut self.0;
+        change!(
+            t,
+            net_image_read(&mut t.n, &mut t.m, bytes.as_ptr(), bytes.len())
+        )
+    }
+}
+
+/// The items that a table has room for at first.
+const FIRST_LENGTH: usize = 64;
+
+/// The items of a call that is lent a table, its length and a count. The table grows while the call is
+/// refused 7, which has then changed nothing.
+fn grown(
+    mut call: impl FnMut(*mut u32, usize, *mut u32) -> Result<(), Refusal>,
+) -> Result<Vec<u32>, Refusal> {
+    let mut items = vec![0; FIRST_LENGTH];
+    let mut count = 0;
+    loop {
+        match call(items.as_mut_ptr(), items.len(), &mut count) {
+            Err(Refusal::Short) => items = vec![0; 2 * items.len()],
+            Err(why) => return Err(why),
+            Ok(()) => {
+                items.truncate(count as usize);
+                return Ok(items);
+            }
+        }
+    }
+}
