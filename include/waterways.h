@@ -258,6 +258,13 @@ uint32_t net_image_read(
     uint32_t *registers, size_t registers_len, uint32_t *links, size_t links_len,
     uint32_t *ends, size_t ends_len, uint32_t *n, uint32_t *m, const uint8_t *bytes, size_t bytes_len);
 
+/* Scripts (libscript.a) */
+
+/* Runs a script of at most 16,384 bytes from an empty network, and writes its answer lines to out, whole ones
+   only and at most 16,384 bytes. Returns the answer number times 2^32, plus the bytes written: 0, or 7 where a
+   line did not fit; or 1, and nothing written, for a script too long. No byte past those written is touched. */
+uint64_t net_run(const uint8_t *script, size_t script_len, uint8_t *out, size_t out_len);
+
 #ifdef __cplusplus
 }
 #endif

@@ -23,7 +23,8 @@ functions() {
     done | sort
 }
 
-# the function of each line of the list; a line that names two, or takes less than every input where it is no part, is told whole
+# the function of each line of the list; a line that names two, or takes less than every input where it is no part, is told whole.
+# A function that is proved by hand stands there with its clauses and their claim.
 listed() {
     sed -nE 's/^pub [^ ]+ : (Settles(All|ByHand)? .*)$/\1/p' crates/demands/proofs/Settled*.antt | awk '
         {

@@ -116,14 +116,13 @@ walker-new = (λ κs given. tt, λ κs given x y p q. ap (λ r. (r, _)) (begun-t
 pub walker-step : SettlesAll walker.Walker.step.ended walker.Walker.step.Reads.Pre walker.Walker.step.Reads.Post
 walker-step = (λ κs given. tt, λ κs given x y p q. ap (λ r. (r, _)) (step-told-once _ _ (alike p q)))
 
--- the claim of `next`, which is proved by hand: of what was given the walker stands first, then the network
-abbrev next-claim : Ensures lent.next.ended
-next-claim κs given r s =
-    out (toldNode r) (now (s .0))
-    ≡ step (net (now (given .1 .0)) (now (given .1 .1 .0)) (now (given .1 .1 .1 .0)) (now (given .1 .1 .1 .1 .0)) (now (given .1 .1 .1 .1 .1 .0)) (given .1 .1 .1 .1 .1 .1 .0) (given .1 .1 .1 .1 .1 .1 .1 .0)) (now (given .0))
+-- `next` is proved by hand, and of such a function the prover reads no clause off: its claim stands here, and is shown to be the clause
+abbrev next-ensures : Ensures lent.next.ended
+next-ensures κs (w, (weights, (heads, (registers, (links, (ends, (n, (m, none)))))))) r left =
+    out (toldNode r) (now (left .0)) ≡ step (net (now weights) (now heads) (now registers) (now links) (now ends) n m) (now w)
 
-pub lent-next : SettlesByHand lent.next.ended (λ M. lent.next.clauses {M = M}) next-claim
-lent-next =
+pub walker-next : SettlesByHand lent.next.ended (λ M. lent.next.clauses {M = M}) next-ensures
+walker-next =
     record {
       asks-nothing = λ M 𝓤 H A mem run κs given ghost. refl;
       is-claim = λ M 𝓤 H A mem run κs given ghost r s. refl;

@@ -9,7 +9,9 @@ use Rattle.script.proofs.net_run.Statement.{statement}
 use Rattle.script.proofs.net_run.Tie as tie
 
 returns : tie.Need-returns
-returns c = too-long _ (c .before .before .if1 .taken) (omega (arith, c .pack .ensures, c .before .number .ensures))
+returns c =
+    let script = c .before .before .before .before .before .args .script .now in
+    too-long script (omega (arith, c .before .before .if1 .taken)) (omega (arith, c .pack .ensures, c .before .number .ensures))
 
 run-lines-requires : tie.Need-run-lines-requires
 run-lines-requires c κs =
