@@ -35,6 +35,10 @@ staticlib:
 rust: staticlib
 	cargo test --release --offline --manifest-path rust/Cargo.toml
 
+# How fast it is beside graph.rs, and petgraph where it is installed: prints, and writes docs/BENCH.md.
+bench: staticlib target/staticlib/libscript.a
+	bench/run.sh
+
 python: staticlib
 	python/build.sh
 	python3 python/network_a.py
@@ -48,4 +52,4 @@ target/staticlib/libscript.a: $(SOURCES)
 	@rt staticlib script >&2
 
 .DELETE_ON_ERROR:
-.PHONY: run test check oracle compare replay staticlib rust python
+.PHONY: run test check oracle compare replay staticlib rust bench python

@@ -379,6 +379,23 @@ impl Network {
         Ok(NodeRemoved { weight, rows })
     }
 
+    /// The same with the weights into a table that may be too short; how many.
+    pub fn remove_node_into(
+        &mut self,
+        a: NodeIndex,
+        items: &mut [u32],
+    ) -> Result<(NodeRemoved, usize), Refusal> {
+        let (at, length, mut count) = (items.as_mut_ptr(), items.len(), 0);
+        let (mut weight, mut rows) = (0, 0);
+        let t = &mut self.0;
+        let (n, m) = (&mut t.n, &mut t.m);
+        change!(
+            t,
+            net_remove_node(n, m, a.0, at, length, &mut weight, &mut rows, &mut count)
+        )?;
+        Ok((NodeRemoved { weight, rows }, count as usize))
+    }
+
     /// Takes out all nodes and edges.
     pub fn clear(&mut self) -> Result<(), Refusal> {
         let t = &mut self.0;
@@ -396,12 +413,15 @@ impl Network {
         let nodes = self.node_count().min(self.0.weights.len());
         let edges = self.edge_count().min(self.0.registers.len());
         let mut bytes = vec![0; 13 + 12 * nodes + 20 * edges];
-        let mut length = 0;
-        ask!(
-            self,
-            net_image_write(bytes.as_mut_ptr(), bytes.len(), &mut length)
-        )?;
+        self.image_write_into(&mut bytes)?;
         Ok(bytes)
+    }
+
+    /// The same into a table that may be too short; how many bytes.
+    pub fn image_write_into(&self, bytes: &mut [u8]) -> Result<usize, Refusal> {
+        let (at, size, mut length) = (bytes.as_mut_ptr(), bytes.len(), 0);
+        ask!(self, net_image_write(at, size, &mut length))?;
+        Ok(length as usize)
     }
 
     /// The network that an image has, in place of this one. One with broken links leaves this one empty.

@@ -147,8 +147,18 @@ impl Pair {
         let expected = removed
             .ok_or(Refusal::NoNode)
             .map(|weight| NodeRemoved { weight, rows });
+        let mut twin = self.ours.clone();
         assert_eq!(self.ours.remove_node_with(a, |w| given.push(w)), expected);
         assert_eq!(given, expected_given);
+        // The same into a lent table: one that lacks a cell is refused, and nothing changes.
+        let mut items = vec![0; given.len()];
+        if let Some(less) = given.len().checked_sub(1) {
+            let short = twin.remove_node_into(a, &mut items[..less]);
+            assert_eq!(short, Err(Refusal::Short));
+        }
+        let into = twin.remove_node_into(a, &mut items);
+        assert_eq!(into, expected.map(|removed| (removed, given.len())));
+        assert_eq!((items, twin), (given, self.ours.clone()));
     }
 
     fn set_weights(&mut self) {

@@ -1,0 +1,149 @@
+//! Ours, by the safe crate and so by one C call an operation, and graph.rs.
+
+use oracle::graph::{self, UnGraph};
+use waterways::{EdgeDirection, EdgeIndex, Network, NodeIndex, Refusal};
+
+use crate::input::Size;
+use crate::side::{END, Side};
+
+pub struct Ours(Network);
+
+impl Ours {
+    pub fn make(size: Size) -> Box<dyn Side> {
+        let empty = Network::with_rows(size.nodes, size.edges);
+        Box::new(Ours(empty.expect("the size is within the limits")))
+    }
+}
+
+const SERVED: &str = "the network is sound and has room";
+
+fn number(edge: Result<EdgeIndex, Refusal>) -> u32 {
+    match edge {
+        Ok(edge) => edge.0,
+        Err(Refusal::Nothing) => END,
+        Err(why) => panic!("{SERVED}: {why}"),
+    }
+}
+
+impl Side for Ours {
+    fn clear(&mut self) {
+        self.0.clear().expect(SERVED);
+    }
+
+    fn counts(&self) -> [usize; 2] {
+        [self.0.node_count(), self.0.edge_count()]
+    }
+
+    fn add_node(&mut self, weight: i32) -> u32 {
+        self.0.add_node(weight).expect(SERVED).0
+    }
+
+    fn add_edge(&mut self, a: u32, b: u32, weight: u32) -> u32 {
+        let added = self.0.add_edge(NodeIndex(a), NodeIndex(b), weight);
+        added.expect(SERVED).0
+    }
+
+    fn find_edge(&self, a: u32, b: u32) -> u32 {
+        number(self.0.find_edge(NodeIndex(a), NodeIndex(b)))
+    }
+
+    fn neighbors_into(&self, a: u32, items: &mut [u32]) -> usize {
+        self.0.neighbors_into(NodeIndex(a), items).expect(SERVED)
+    }
+
+    fn sum_around(&self, a: u32) -> i64 {
+        self.0.sum_around(NodeIndex(a)).expect(SERVED)
+    }
+
+    fn first_edge(&self, a: u32, k: usize) -> u32 {
+        let direction = [EdgeDirection::Outgoing, EdgeDirection::Incoming][k];
+        number(self.0.first_edge(NodeIndex(a), direction))
+    }
+
+    fn remove_edge(&mut self, e: u32) -> u32 {
+        self.0.remove_edge(EdgeIndex(e)).expect(SERVED).weight
+    }
+
+    fn remove_node(&mut self, a: u32, items: &mut [u32]) -> i32 {
+        let removed = self.0.remove_node_into(NodeIndex(a), items);
+        removed.expect(SERVED).0.weight
+    }
+
+    fn image_write(&self, bytes: &mut [u8]) -> Option<usize> {
+        self.0.image_write_into(bytes).ok()
+    }
+
+    fn image_read(&mut self, bytes: &[u8]) -> Option<usize> {
+        self.0.image_read(bytes).expect(SERVED);
+        Some(self.0.edge_count())
+    }
+
+    fn run(&self, script: &[u8], out: &mut [u8]) -> Option<u64> {
+        Some(host::net_run(script, out))
+    }
+}
+
+pub struct Theirs(UnGraph<i32, u32>);
+
+impl Theirs {
+    pub fn make(size: Size) -> Box<dyn Side> {
+        Box::new(Theirs(UnGraph::with_capacity(size.nodes, size.edges)))
+    }
+}
+
+impl Side for Theirs {
+    fn clear(&mut self) {
+        self.0.clear();
+    }
+
+    fn counts(&self) -> [usize; 2] {
+        [self.0.node_count(), self.0.edge_count()]
+    }
+
+    fn add_node(&mut self, weight: i32) -> u32 {
+        self.0.add_node(weight).0
+    }
+
+    fn add_edge(&mut self, a: u32, b: u32, weight: u32) -> u32 {
+        let (a, b) = (graph::NodeIndex(a), graph::NodeIndex(b));
+        self.0.add_edge(a, b, weight).0
+    }
+
+    fn find_edge(&self, a: u32, b: u32) -> u32 {
+        let found = self.0.find_edge(graph::NodeIndex(a), graph::NodeIndex(b));
+        found.map_or(END, |edge| edge.0)
+    }
+
+    fn neighbors_into(&self, a: u32, items: &mut [u32]) -> usize {
+        let met = items.iter_mut().zip(self.0.neighbors(graph::NodeIndex(a)));
+        met.map(|(cell, b)| *cell = b.0).count()
+    }
+
+    fn sum_around(&self, a: u32) -> i64 {
+        let met = self.0.neighbors(graph::NodeIndex(a));
+        met.map(|b| i64::from(self.0[b])).sum()
+    }
+
+    fn first_edge(&self, a: u32, k: usize) -> u32 {
+        let direction = graph::EdgeDirection::ALL[k];
+        let first = self.0.first_edge(graph::NodeIndex(a), direction);
+        first.map_or(END, |edge| edge.0)
+    }
+
+    fn remove_edge(&mut self, e: u32) -> u32 {
+        let removed = self.0.remove_edge(graph::EdgeIndex(e));
+        removed.expect("the edge is there")
+    }
+
+    fn remove_node(&mut self, a: u32, items: &mut [u32]) -> i32 {
+        let mut cells = items.iter_mut();
+        let removed = self.0.remove_node_with(graph::NodeIndex(a), |weight| {
+            *cells.next().expect("there is room") = weight;
+        });
+        removed.expect("the node is there")
+    }
+
+    fn run(&self, script: &[u8], out: &mut [u8]) -> Option<u64> {
+        Some(oracle::run(script, out))
+    }
+}

@@ -1,0 +1,154 @@
+//! What is timed: the pieces of work, their inputs, and the tables lent to them.
+
+use oracle::run::OUTPUT_LIMIT;
+
+use crate::input::{HUBS, Input, NODES_OUT, Shape, Size};
+use crate::scripts::{self, scripts};
+use crate::side::{Side, stir};
+
+#[derive(Clone, Copy, Debug, PartialEq, Eq)]
+pub enum Work {
+    Build,
+    Find,
+    Walk,
+    Sum,
+    AllEdges,
+    HubEdges,
+    StripHubs,
+    Nodes,
+    ImageWrite,
+    ImageRead,
+    AlikeScripts,
+    Scripts,
+}
+
+use Shape::{Even, Hubs};
+
+/// Every work with its name and the shapes that it is done on.
+pub const WORKS: [(Work, &str, &[Shape]); 12] = [
+    (Work::Build, "build", &[Even, Hubs]),
+    (Work::Find, "find", &[Even, Hubs]),
+    (Work::Walk, "walk all neighbours", &[Even, Hubs]),
+    (Work::Sum, "sum around all nodes", &[Even, Hubs]),
+    (Work::AllEdges, "take out all edges", &[Even, Hubs]),
+    (Work::HubEdges, "take out hub edges", &[Hubs]),
+    (Work::StripHubs, "strip hubs", &[Hubs]),
+    (Work::Nodes, "take out nodes", &[Even, Hubs]),
+    (Work::ImageWrite, "write an image", &[Even]),
+    (Work::ImageRead, "read an image", &[Even]),
+    (Work::AlikeScripts, "scripts without S, X, D", &[Even]),
+    (Work::Scripts, "scripts", &[Even]),
+];
+
+impl Work {
+    /// A script brings its own network.
+    pub fn has_network(self) -> bool {
+        self != Work::Scripts && self != Work::AlikeScripts
+    }
+
+    /// Ours alone has images.
+    pub fn is_image(self) -> bool {
+        self == Work::ImageWrite || self == Work::ImageRead
+    }
+}
+
+/// One work on one input.
+pub struct Task {
+    pub work: Work,
+    input: Input,
+    scripts: Vec<Vec<u8>>,
+}
+
+/// Tables that outlive the rounds, so that none is made or first touched while time is taken.
+pub struct Room {
+    items: Vec<u32>,
+    image: Vec<u8>,
+    out: Vec<u8>,
+}
+
+impl Room {
+    pub fn new(size: Size) -> Room {
+        Room {
+            items: vec![0; size.edges],
+            image: vec![0; 13 + 12 * size.nodes + 20 * size.edges],
+            out: vec![0; scripts::COUNT * OUTPUT_LIMIT],
+        }
+    }
+}
+
+impl Task {
+    pub fn new(work: Work, shape: Shape, size: Size, seed: u64) -> Task {
+        let size = if work.has_network() {
+            size
+        } else {
+            Size::of(0)
+        };
+        Task {
+            work,
+            input: Input::new(size, shape, seed),
+            scripts: match work {
+                Work::Scripts => scripts(scripts::ALL, seed),
+                Work::AlikeScripts => scripts(scripts::ALIKE, seed),
+                _ => Vec::new(),
+            },
+        }
+    }
+
+    /// How many operations it has: calls, rows walked, or bytes.
+    pub fn operations(&self) -> usize {
+        let (nodes, edges) = (self.input.weights.len(), &self.input.edges);
+        match self.work {
+            Work::Build => nodes + edges.len(),
+            Work::Find | Work::AllEdges => edges.len(),
+            Work::Walk | Work::Sum => 2 * edges.len(),
+            Work::HubEdges => self.input.hub_out.len(),
+            Work::StripHubs => edges.iter().filter(|e| e[0].min(e[1]) < HUBS).count(),
+            Work::Nodes => NODES_OUT,
+            Work::ImageWrite | Work::ImageRead => 13 + 12 * nodes + 20 * edges.len(),
+            Work::AlikeScripts | Work::Scripts => self.scripts.iter().map(Vec::len).sum(),
+        }
+    }
+
+    /// Brings a side to where the work begins.
+    pub fn prepare(&self, side: &mut dyn Side, room: &mut Room) {
+        side.clear();
+        if self.work != Work::Build {
+            side.build(&self.input);
+        }
+        if self.work == Work::ImageRead {
+            side.image_write(&mut room.image);
+        }
+    }
+
+    /// Counts and a checksum of all that is there after the work.
+    pub fn left(&self, side: &dyn Side, room: &mut Room) -> ([usize; 2], u64) {
+        let walked = side.walk_all(&mut room.items);
+        let printed = room.out.iter().map(|&byte| byte.into());
+        (side.counts(), printed.fold(walked, stir))
+    }
+}
+
+/// The work itself; `None` where the side cannot do it. The count of instructions finds it by name.
+#[inline(never)]
+pub fn timed_part(task: &Task, side: &mut dyn Side, room: &mut Room) -> Option<u64> {
+    let input = &task.input;
+    Some(match task.work {
+        Work::Build => side.build(input),
+        Work::Find => side.find_all(&input.pairs),
+        Work::Walk => side.walk_all(&mut room.items),
+        Work::Sum => side.sum_all(),
+        Work::AllEdges => side.remove_edges(&input.all_out),
+        Work::HubEdges => side.remove_edges(&input.hub_out),
+        Work::StripHubs => side.strip_hubs(),
+        Work::Nodes => side.remove_nodes(&input.nodes_out, &mut room.items),
+        Work::ImageWrite => side.image_write(&mut room.image)? as u64,
+        Work::ImageRead => side.image_read(&room.image)? as u64,
+        Work::AlikeScripts | Work::Scripts => {
+            let outs = room.out.chunks_mut(OUTPUT_LIMIT);
+            let mut ran = task.scripts.iter().zip(outs);
+            ran.try_fold(0, |sum, (script, out)| {
+                Some(stir(sum, side.run(script, out)?))
+            })?
+        }
+    })
+}
