@@ -1,6 +1,6 @@
 -- The clauses of `walked`, each under the facts that choose it, where `link` stands at the spot s; and of the walk through all lists
 -- of one direction. Whatever the tables hold, it reads at most m rows: `most-read`. Assumes nothing.
-use Prim.Native.Nat.{ℕ, zero, suc, _+_, _-_, _≤_, _<_}
+use Prim.Native.Nat.{ℕ, zero, suc, _+_, _-_, _^_, _≤_, _<_}
 use mathlib.Core.Path.{_≡_, refl, sym, _∙_}
 use native.Mathlib.Decide.{ℕ-discrete, decLt}
 use native.Mathlib.Numerals.{add-one}
@@ -12,6 +12,10 @@ use Rattle.lists.specs.declared.Spot.the-variants.{Head, After}
 use Rattle.sound.specs.declared.Walked.{Walked}
 use Rattle.sound.specs.declared.Walked.the-variants.{Read, FaultAt}
 use Rattle.sound.specs.Check.{walked, nodeWalked, upTo, oneWay}
+
+-- a link below a count is no `END`
+pub no-end : {m link : ℕ} → m < 2 ^ 32 → link < m → link ≡ END → ⊥
+no-end p q h = omega arith
 
 module _ (lk : Spot → ℕ) (node : ℕ → ℕ) (m a : ℕ) (s : Spot) (rows : ℕ) {link : ℕ} (is : lk s ≡ link) where
   pub at-end : (left : ℕ) → link ≡ END → walked lk node m a left s rows ≡ Read rows

@@ -26,11 +26,8 @@ pub fn walk_list(
 {
     let mut e = heads[NODE_CELLS * a.index() + k];
     let mut rows = read;
-    while e != EdgeIndex::END.0 {
+    while e < m {
         if rows == m {
-            return Walked::FaultAt(a.0);
-        }
-        if m <= e {
             return Walked::FaultAt(a.0);
         }
         let row = EDGE_CELLS * EdgeIndex(e).index();
@@ -39,6 +36,9 @@ pub fn walk_list(
         }
         e = links[row + k];
         rows += 1;
+    }
+    if e != EdgeIndex::END.0 {
+        return Walked::FaultAt(a.0);
     }
     Walked::Read(rows)
 }

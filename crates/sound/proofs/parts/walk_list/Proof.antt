@@ -8,7 +8,7 @@ use Rattle.lists.specs.declared.Spot.{Spot}
 use Rattle.lists.specs.declared.Spot.the-variants.{Head, After}
 use Rattle.lists.specs.Walk.{cell, linkIn}
 use Rattle.sound.specs.Check.{walked, nodeWalked}
-use Rattle.sound.proofs.Walks.{at-end, spent, past, strange, further}
+use Rattle.sound.proofs.Walks.{no-end, at-end, spent, past, strange, further}
 use Rattle.sound.proofs.parts.walk_list.Statement.{statement}
 use Rattle.sound.proofs.parts.walk_list.Tie as tie
 
@@ -26,22 +26,21 @@ loop-holds c = rw (c .before .index .ensures) (c .before .before .before .before
 
 returns : tie.Need-returns Inv-loop μ-loop
 returns c =
-    let i = c .before .before .before .loop .inv in
-    sym (spent _ _ _ _ _ _ (i .2 .1) _ (c .before .if1 .taken) (omega arith)) ∙ i .2 .2
+    let i = c .before .before .loop .inv in
+    let h = no-end (c .before .before .before .before .before .before .before .before .fits .m .fits) (c .before .loop-test .taken) in
+    sym (spent _ _ _ _ _ _ (i .2 .1) _ h (omega arith)) ∙ i .2 .2
 
 returns-2 : tie.Need-returns-2 Inv-loop μ-loop
 returns-2 c =
-    let i = c .before .before .before .before .loop .inv in
-    sym (past _ _ _ _ _ _ (i .2 .1) _ (c .before .before .if1 .taken) (c .if3 .taken)) ∙ i .2 .2
-
-returns-3 : tie.Need-returns-3 Inv-loop μ-loop
-returns-3 c =
-    let i = c .before .before .before .before .before .before .before .before .loop .inv in
-    sym (strange _ _ _ _ _ _ (i .2 .1) _ (c .before .before .before .before .before .before .if1 .taken) (rw (c .before .before .before .index2 .ensures) at (c .if4 .taken))) ∙ i .2 .2
+    let i = c .before .before .before .before .before .before .loop .inv in
+    let h = no-end (c .before .before .before .before .before .before .before .before .before .before .before .before .fits .m .fits) (c .before .before .before .before .before .loop-test .taken) in
+    sym (strange _ _ _ _ _ _ (i .2 .1) _ h (rw (c .before .before .before .index2 .ensures) at (c .if2 .taken))) ∙ i .2 .2
 
 loop-again : tie.Need-loop-again Inv-loop μ-loop
 loop-again c =
-    let i = c .before .before .before .before .before .before .before .before .before .loop .inv in
+    let l = c .before .before .before .before .before .before .loop-test .taken in
+    let h = no-end (c .before .before .before .before .before .before .before .before .before .before .before .before .before .fits .m .fits) l in
+    let i = c .before .before .before .before .before .before .before .loop .inv in
     let q = c .before .before .before .before .index2 .ensures in
     rw q (
       omega arith,
@@ -49,14 +48,19 @@ loop-again c =
       (
         After _,
         refl,
-        sym (further _ _ _ _ _ _ (i .2 .1) (c .before .before .before .before .before .before .before .if1 .taken) (i .0) (c .before .before .before .before .before .before .if2 .left) (c .before .before .before .before .before .if3 .left) (rw q at (c .before .if4 .left))) ∙ i .2 .2,
+        sym (further _ _ _ _ _ _ (i .2 .1) h (i .0) (c .before .before .before .before .before .if1 .left) l (rw q at (c .before .if2 .left))) ∙ i .2 .2,
       ),
     )
 
+returns-3 : tie.Need-returns-3 Inv-loop μ-loop
+returns-3 c =
+    let i = c .before .before .before .loop .inv in
+    sym (past _ _ _ _ _ _ (i .2 .1) _ (c .if3 .taken) (c .before .before .loop-test .left)) ∙ i .2 .2
+
 returns-4 : tie.Need-returns-4 Inv-loop μ-loop
 returns-4 c =
-    let i = c .before .before .loop .inv in
-    sym (at-end _ _ _ _ _ _ (i .2 .1) _ (c .if1 .left)) ∙ i .2 .2
+    let i = c .before .before .before .loop .inv in
+    sym (at-end _ _ _ _ _ _ (i .2 .1) _ (c .if3 .left)) ∙ i .2 .2
 
 pub walk-list-spec : {M : Type 1} → statement M
 walk-list-spec =
@@ -71,17 +75,17 @@ walk-list-spec =
     (λ c. search needs)
     loop-holds
     returns
-    returns-2
     (λ c κs. search needs)
     (λ c. search needs)
     (λ c. search needs)
     (λ c. search needs)
     (λ c. search needs)
-    returns-3
+    returns-2
     (λ c. search needs)
     (λ c. search needs)
     (λ c. search needs)
     (λ c. search needs)
     (λ c. search needs)
     loop-again
+    returns-3
     returns-4)
