@@ -1,7 +1,6 @@
 -- The order's cases of a node taken out, computed from the definitions. Assumes nothing.
-use Prim.Native.Nat.{ℕ}
 use mathlib.Core.Path.{_≡_, refl}
-use mathlib.Core.List.{List, [], _∷_}
+use mathlib.Core.List.{[], _∷_}
 use lib.IntN.{pos, negsuc}
 use Rattle.index.specs.declared.Refusal.the-variants.{NoNode}
 use Rattle.index.specs.Index.{END}
@@ -9,7 +8,7 @@ use Rattle.tables.specs.Net.{net, fit}
 use Rattle.tables.specs.Rows.{withNode, withEdge}
 use Rattle.tables.specs.Answers.{out, done, refused}
 use Rattle.tables.proofs.NetworkA.{empty, networkA}
-use Rattle.lists.specs.Walk.{walk, stop}
+use Rattle.lists.specs.Walk.{walk}
 use Rattle.sound.specs.Sound.{lists}
 use Rattle.sound.specs.Check.{walked, upTo, oneWay, checked}
 use Rattle.links.specs.Links.{seek, searched, located, headsAt, linksAt, led}

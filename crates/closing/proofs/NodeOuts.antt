@@ -4,7 +4,7 @@
 -- `six-unsound`. Assumes nothing.
 use Prim.Native.Nat.{ℕ, _+_, _*_, _-_, _≤_, _<_}
 use mathlib.Core.Path.{_≡_, refl, sym, ap, ap₂, _∙_, subst}
-use mathlib.Core.Bool.{Bool, true, false, cond}
+use mathlib.Core.Bool.{true, cond}
 use mathlib.Core.List.{List}
 use native.Mathlib.Decide.{ℕ-discrete}
 use native.Mathlib.Omega.{arith}
@@ -13,7 +13,8 @@ use lib.Dec.{eqb, ltb, leb}
 use lib.IntN.{ℤ, pos}
 use lib.ListN.{length, getD}
 use Rattle.tables.specs.Net.{Net, fits}
-use Rattle.tables.specs.Answers.{done, unless, onto}
+use Rattle.tables.specs.Answers.{done, onto}
+use Rattle.tables.proofs.Laws.{tested}
 use Rattle.lists.specs.declared.Item.the-variants.{Weight}
 use Rattle.lists.specs.Walk.{around}
 use Rattle.sound.specs.declared.Checked.{Checked}
@@ -118,28 +119,23 @@ node-out g ls a items f S la room =
     rw (f, lt-ltb a (g .n) la, sound-accepted g ls f S, le-leb (length (around g Weight a)) (length items) room)
     (closing g ls a f S la items)
 
--- what holds of a refusal, and where the test passes of the rest
-either : (P : Closed → Type 0) (b : Bool) (refusal rest : Closed) → P refusal → (b ≡ true → P rest) → P (unless b refusal rest)
-either P true refusal rest p q = q refl
-either P false refusal rest p q = p
-
 pub node-refused : (g : Net) (a : ℕ) (items : List ℕ) → (removeNode g a items .answer .number ≡ 0 → ⊥) → removeNode g a items .after ≡ (g, items)
 unfolding removeNode closedIfRoom
 node-refused g a items =
     let P : Closed → Type 0 = λ o. (o .answer .number ≡ 0 → ⊥) → o .after ≡ (g, items) in
-    either P (fits g) _ _ (λ n. refl) (λ f.
-    either P (ltb a (g .n)) _ _ (λ n. refl) (λ l.
-    either P (accepted (checked g)) _ _ (λ n. refl) (λ c.
-    either P (leb (length (around g Weight a)) (length items)) _ _ (λ n. refl) (λ r n. absurd (n refl)))))
+    tested P (fits g) _ _ (λ n. refl) (λ f.
+    tested P (ltb a (g .n)) _ _ (λ n. refl) (λ l.
+    tested P (accepted (checked g)) _ _ (λ n. refl) (λ c.
+    tested P (leb (length (around g Weight a)) (length items)) _ _ (λ n. refl) (λ r n. absurd (n refl)))))
 
 pub node-kept : (g : Net) (ls : ℕ → ℕ → List ℕ) (a : ℕ) (items : List ℕ) → Sound g ls → HasLists (removeNode g a items .after .0)
 unfolding removeNode closedIfRoom
 node-kept g ls a items S =
     let P : Closed → Type 0 = λ o. HasLists (o .after .0) in
-    either P (fits g) _ _ (ls, S) (λ f.
-    either P (ltb a (g .n)) _ _ (ls, S) (λ l.
-    either P (accepted (checked g)) _ _ (ls, S) (λ c.
-    either P (leb (length (around g Weight a)) (length items)) _ _ (ls, S) (λ r.
+    tested P (fits g) _ _ (ls, S) (λ f.
+    tested P (ltb a (g .n)) _ _ (ls, S) (λ l.
+    tested P (accepted (checked g)) _ _ (ls, S) (λ c.
+    tested P (leb (length (around g Weight a)) (length items)) _ _ (ls, S) (λ r.
     (lessNode a (g .n - 1) (listing g ls), closing g ls a f S (ltb-true a (g .n) l) items .sound)))))
 
 accepts : (r : Checked) → accepted r ≡ true → (rows : ℕ) × (r ≡ Checked·.Accepted rows)
@@ -152,12 +148,12 @@ module _ (g : Net) (a : ℕ) (items : List ℕ) (f : fits g ≡ true) (la : a < 
   unfolding removeNode
   unsound-6 n =
       rw (f, lt-ltb a (g .n) la)
-      (either (λ o. o .answer .number ≡ 6) (accepted (checked g)) _ _ refl (λ c.
+      (tested (λ o. o .answer .number ≡ 6) (accepted (checked g)) _ _ refl (λ c.
       let r = accepts (checked g) c in
       absurd (n (lists g, accepted-sound g (r .0) (r .1) .1))))
 
   pub six-unsound : removeNode g a items .answer .number ≡ 6 → HasLists g → ⊥
   unfolding removeNode closedIfRoom
   six-unsound h (ls, S) =
-      either (λ o. o .answer .number ≡ 6 → ⊥) (leb (length (around g Weight a)) (length items)) _ _ (λ z. omega arith) (λ r z. omega arith)
+      tested (λ o. o .answer .number ≡ 6 → ⊥) (leb (length (around g Weight a)) (length items)) _ _ (λ z. omega arith) (λ r z. omega arith)
       (rw (f, lt-ltb a (g .n) la, sound-accepted g ls f S) at h)

@@ -1,26 +1,25 @@
 -- Whatever a command answers, a network that fits and is sound is left so: `add-node-keeps`, `add-edge-keeps`, `update-edge-keeps`, `remove-edge-keeps`,
 -- `remove-node-keeps`, `clear-edges-keeps`, `clear-keeps`. Assumes nothing.
-use Prim.Native.Nat.{ℕ, _+_, _*_, _-_, _≤_, _<_}
-use mathlib.Core.Path.{_≡_, refl, sym, ap, ap₂, _∙_, subst}
-use mathlib.Core.Bool.{Bool, true, false, _&&_}
-use mathlib.Core.List.{List, _++_}
+use Prim.Native.Nat.{ℕ, _*_, _≤_}
+use mathlib.Core.Path.{_≡_, refl, _∙_}
+use mathlib.Core.Bool.{true, _&&_}
+use mathlib.Core.List.{List}
 use native.Mathlib.Omega.{arith}
 use borrow.Author.Tests.{ltb-true, le-leb, eq-eqb}
 use lib.Dec.{ltb}
 use lib.IntN.{ℤ, pos}
-use lib.ListN.{length, getD, set, take, drop, replicate, length-set, length-append, length-drop, length-replicate}
-use lib.Seq.{length-take-le}
+use lib.ListN.{length, getD, set, length-set}
 use Rattle.index.specs.Index.{END}
 use Rattle.tables.specs.Net.{Net, fits, fit, nodeRows, edgeRows, nodeCells, edgeCells, nodeCell, edgeCell}
 use Rattle.tables.specs.Answers.{Out}
-use Rattle.tables.specs.Rows.{filled, withNode, withEdge, vacantNodes, vacantEdges}
-use Rattle.tables.proofs.Laws.{Fit}
+use Rattle.tables.specs.Rows.{withNode, withEdge, vacantNodes, vacantEdges}
+use Rattle.tables.proofs.Laws.{tested}
+use Rattle.tables.proofs.Vacant.{filled-length}
 use Rattle.rows.specs.Calls.{addNode, linked, addEdge, clear, clearEdges}
-use Rattle.find.specs.declared.Sought.{Sought}
-use Rattle.find.specs.declared.Sought.the-variants.{Row, Missing, Endless}
-use Rattle.find.specs.Find.{sought, on, updateEdge}
+use Rattle.find.specs.Find.{sought, updateEdge}
+use Rattle.find.proofs.Laws.{sought-by}
 use Rattle.sound.specs.Sound.{Sound, lists}
-use Rattle.sound.proofs.Kept.{fitOf, either, HasLists, node-kept, edge-kept, update-kept, clear-edges-kept, clear-kept}
+use Rattle.sound.proofs.Kept.{fitOf, HasLists, node-kept, edge-kept, update-kept, clear-edges-kept, clear-kept}
 use Rattle.removal.specs.Removal.{removeEdge}
 use Rattle.removal.proofs.EdgeOuts.{taken-out}
 use Rattle.removal.proofs.EdgeOuts as EdgeOuts·
@@ -29,12 +28,6 @@ use Rattle.closing.proofs.NodeOuts.{node-out}
 use Rattle.closing.proofs.NodeOuts as NodeOuts·
 use Rattle.commands.specs.Commands.{addNodeLine, addEdgeLine, updateEdgeLine, removeEdgeLine, removeNodeLine, clearEdgesLine, clearLine}
 use Rattle.commands.proofs.Ways.{node-ways}
-
-pub filled-length : {A : Type 0} (l : List A) (first last : ℕ) (x : A) → first ≤ last → last ≤ length l → length (filled l first last x) ≡ length l
-filled-length l first last x h k =
-    let front = length-append (take first l) (replicate (last - first) x ++ drop last l) in
-    let back = length-append (replicate (last - first) x) (drop last l) in
-    omega (arith, front, back, length-take-le first l (omega arith), length-replicate (last - first) x, length-drop last l)
 
 twice-set : (l : List ℕ) (i j x y : ℕ) → length (set (set l i x) j y) ≡ length l
 twice-set l i j x y = length-set (set l i x) j y ∙ length-set l i x
@@ -64,8 +57,8 @@ node-fits : (g : Net) (w : ℤ) → fits g ≡ true → fits (addNode g w .after
 unfolding addNode withNode
 node-fits g w f =
     let t = fitOf g f in
-    either Fitting (fits g) _ _ f (λ e.
-    either Fitting (ltb (g .n) (length (g .weights))) _ _ f (λ l.
+    tested Fitting (fits g) _ _ f (λ e.
+    tested Fitting (ltb (g .n) (length (g .weights))) _ _ f (λ l.
     still-fits g f
     (length-set (g .weights) (g .n) w)
     (twice-set (g .heads) (nodeCell (g .n) 0) (nodeCell (g .n) 1) END END)
@@ -79,9 +72,9 @@ edge-fits g a b w f =
     let t = fitOf g f in
     let p = edgeCell (g .m) 0 in
     let q = edgeCell (g .m) 1 in
-    either Fitting (fits g) _ _ f (λ e.
-    either Fitting (ltb (g .m) (length (g .registers))) _ _ f (λ l.
-    either Fitting (ltb a (g .n) && ltb b (g .n)) _ _ f (λ h.
+    tested Fitting (fits g) _ _ f (λ e.
+    tested Fitting (ltb (g .m) (length (g .registers))) _ _ f (λ l.
+    tested Fitting (ltb a (g .n) && ltb b (g .n)) _ _ f (λ h.
     still-fits g f
     refl
     (twice-set (g .heads) (nodeCell a 0) (nodeCell b 1) (g .m) (g .m))
@@ -91,19 +84,12 @@ edge-fits g a b w f =
     (t .n-within)
     (omega (arith, ltb-true (g .m) (length (g .registers)) l)))))
 
--- whatever a search comes to
-pub sought-by : {A : Type 0} (P : A → Type 0) (s : Sought) (found : ℕ → A) (missing endless : A) → ((e : ℕ) → P (found e)) → P missing → P endless
-    → P (on s found missing endless)
-sought-by P (Row e k) found missing endless p q r = p (e .0)
-sought-by P Missing found missing endless p q r = q
-sought-by P Endless found missing endless p q r = r
-
 update-fits : (g : Net) (a b w : ℕ) → fits g ≡ true → fits (updateEdge g a b w .after) ≡ true
 unfolding updateEdge
 update-fits g a b w f =
     let t = fitOf g f in
-    either Fitting (fits g) _ _ f (λ e.
-    either Fitting (ltb a (g .n)) _ _ (edge-fits g a b w f) (λ l.
+    tested Fitting (fits g) _ _ f (λ e.
+    tested Fitting (ltb a (g .n)) _ _ (edge-fits g a b w f) (λ l.
     sought-by Fitting (sought g a b) _ _ _
     (λ e. still-fits g f refl refl (length-set (g .registers) e w) refl refl (t .n-within) (t .m-within))
     (edge-fits g a b w f)
@@ -112,8 +98,8 @@ update-fits g a b w f =
 removal-fits : (g : Net) (ls : ℕ → ℕ → List ℕ) (e : ℕ) → fits g ≡ true → Sound g ls → fits (removeEdge g e .after) ≡ true
 unfolding removeEdge
 removal-fits g ls e f S =
-    either Fitting (fits g) _ _ f (λ h.
-    either Fitting (ltb e (g .m)) _ _ f (λ l. taken-out g ls e f S (ltb-true e (g .m) l) .fit))
+    tested Fitting (fits g) _ _ f (λ h.
+    tested Fitting (ltb e (g .m)) _ _ f (λ l. taken-out g ls e f S (ltb-true e (g .m) l) .fit))
 
 closing-fits : (g : Net) (a : ℕ) (items : List ℕ) → fits g ≡ true → fits (removeNode g a items .after .0) ≡ true
 closing-fits g a items f =
@@ -123,7 +109,7 @@ clear-edges-fits : (g : Net) → fits g ≡ true → fits (clearEdges g .after) 
 unfolding clearEdges vacantEdges
 clear-edges-fits g f =
     let t = fitOf g f in
-    either Fitting (fits g) _ _ f (λ e.
+    tested Fitting (fits g) _ _ f (λ e.
     still-fits g f
     refl
     (filled-length (g .heads) 0 (nodeCells * g .n) END (omega arith) (omega arith))
@@ -137,7 +123,7 @@ clear-fits : (g : Net) → fits g ≡ true → fits (clear g .after) ≡ true
 unfolding clear vacantEdges vacantNodes
 clear-fits g f =
     let t = fitOf g f in
-    either Fitting (fits g) _ _ f (λ e.
+    tested Fitting (fits g) _ _ f (λ e.
     still-fits g f
     (filled-length (g .weights) 0 (g .n) (pos 0) (omega arith) (t .n-within))
     (filled-length (g .heads) 0 (nodeCells * g .n) END (omega arith) (omega arith))

@@ -3,7 +3,7 @@
 use Prim.Native.Nat.{ℕ, zero, suc, _<_}
 use mathlib.Core.Path.{_≡_, refl, ap, subst}
 use mathlib.Core.Logic.{⊎-elim}
-use mathlib.Core.Bool.{Bool, true, false, not, cond, _&&_}
+use mathlib.Core.Bool.{Bool, true, false, cond, _&&_}
 use mathlib.Core.List.{List, [], _∷_, _++_, map, append-nil}
 use native.Mathlib.Omega.{arith}
 use borrow.Author.Tests.{lt-ltb, ltb-true}
@@ -21,6 +21,7 @@ use Rattle.lists.specs.Walk.{cell, linkAt, walk, filter, picked, gives, picks, 
 use Rattle.lists.proofs.Chains.{chain-ends}
 use Rattle.walks.specs.Legs.{Tables3, roomFor, giveThree}
 use Rattle.walks.specs.Walks.{walked, neighbors, edges, edgesMut, edgesBetween}
+use Rattle.tables.proofs.Laws.{tested}
 use Rattle.find.specs.declared.Sought.{Sought}
 use Rattle.find.specs.declared.Sought.the-variants.{Missing}
 use Rattle.find.specs.Parts.{firstIn, searched, soughtFrom}
@@ -35,7 +36,7 @@ use Rattle.closing.specs.Closing.{Closed, removeNode}
 use Rattle.closing.proofs.NodeOuts.{six-unsound}
 use Rattle.reply.specs.declared.Reply.{Reply}
 use Rattle.commands.specs.Commands.{nothing, oneValue, oneNumber, counted, edgeGone, nodeGone, rowsRead, replyTo, addNodeLine, addEdgeLine, updateEdgeLine, findEdgeLine, removeEdgeLine, removeNodeLine, neighborsLine, edgesLine, edgesMutLine, edgesBetweenLine, sumAroundLine, checkLine, clearEdgesLine, clearLine}
-use Rattle.commands.proofs.Ways.{either-way, tested, missing-is}
+use Rattle.commands.proofs.Ways.{either-way, missing-is}
 use Rattle.commands.proofs.Kept.{Sane}
 
 -- an answer that is no 6, with what a call leaves or without

@@ -1,19 +1,19 @@
 -- A node's removal is refused with zeros and changes nothing, or the node is taken out of a sound network: `node-ways`. So the rows read can be told
 -- as a signed number: `few-rows`, `few-so`. Assumes nothing.
-use Prim.Native.Nat.{ℕ, _+_, _*_, _-_, _^_, _≤_, _<_}
-use mathlib.Core.Path.{_≡_, refl, sym, ap, _∙_, subst}
+use Prim.Native.Nat.{ℕ, _^_, _≤_, _<_}
+use mathlib.Core.Path.{_≡_, refl, sym, subst}
 use mathlib.Core.Logic.{_⊎_, inl, inr, ⊎-elim}
 use mathlib.Core.Bool.{Bool, true, false}
 use mathlib.Core.List.{List}
 use native.Mathlib.Omega.{arith}
 use borrow.Author.Tests.{ltb-true, leb-true}
 use lib.Dec.{ltb, leb}
-use lib.IntN.{ℤ, pos}
+use lib.IntN.{pos}
 use lib.ListN.{length}
 use Rattle.index.specs.declared.Refusal.{Refusal}
 use Rattle.index.specs.declared.Refusal.the-variants.{Tables, NoNode, Broken, Short}
 use Rattle.tables.specs.Net.{Net, fits}
-use Rattle.tables.specs.Answers.{out, done, refused, unless}
+use Rattle.tables.specs.Answers.{out, refused}
 use Rattle.lists.specs.declared.Item.the-variants.{Weight}
 use Rattle.lists.specs.declared.Spot.the-variants.{Head}
 use Rattle.lists.specs.Walk.{around, linkAt, cell}
@@ -33,11 +33,6 @@ use Rattle.commands.specs.Parts.{FewRows}
 pub either-way : (b : Bool) → (b ≡ true) ⊎ (b ≡ false)
 either-way true = inl refl
 either-way false = inr refl
-
--- what holds of a refusal, and where the test passes of the rest
-pub tested : {X : Type 0} (P : X → Type 0) (b : Bool) (refusal rest : X) → P refusal → (b ≡ true → P rest) → P (unless b refusal rest)
-tested P true refusal rest p q = q refl
-tested P false refusal rest p q = p
 
 -- why a removal is refused
 module _ (g : Net) (a : ℕ) (items : List ℕ) where

@@ -1,5 +1,5 @@
 -- What the parts ask of their callers.
-use Prim.Native.Nat.{ℕ, _^_, _<_}
+use Prim.Native.Nat.{_^_, _<_}
 use Rattle.closing.specs.declared.NodeRemoved.{NodeRemoved}
 use Rattle.closing.specs.Closing.{toldNodeRemoved}
 

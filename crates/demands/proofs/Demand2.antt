@@ -13,6 +13,7 @@ use lib.IntN.{ℤ}
 use lib.ListN.{length-set}
 use Rattle.tables.specs.Net.{Net, fits}
 use Rattle.tables.specs.Answers.{Told, Out, give}
+use Rattle.tables.proofs.Laws.{tested}
 use Rattle.lookups.specs.Lookups.{setNodeWeight, setEdgeWeight}
 use Rattle.lists.specs.declared.Spot.{Spot}
 use Rattle.lists.specs.declared.Spot.the-variants.{Head, After}
@@ -38,7 +39,6 @@ use Rattle.image.specs.Calls.{imageRead}
 use Rattle.image.proofs.Copies.{is-sound-says, read-says, read-is}
 use Rattle.image.proofs.RoundTrip as RoundTrip·
 use Rattle.commands.specs.Commands.{addNodeLine, addEdgeLine, updateEdgeLine, removeEdgeLine, removeNodeLine, clearEdgesLine, clearLine}
-use Rattle.commands.proofs.Ways.{tested}
 use Rattle.commands.proofs.Kept.{Sane, add-node-keeps, add-edge-keeps, update-edge-keeps, remove-edge-keeps, remove-node-keeps, clear-edges-keeps, clear-keeps}
 use Rattle.commands.proofs.Sixes.{Not6, Leaves6, give-6, three-6, sought-ways, find-6, update-6, gone-6, closed-6, walked-6, sum-6}
 use Rattle.text.specs.Lines.{lines}

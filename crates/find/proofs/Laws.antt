@@ -1,6 +1,6 @@
 -- What the first match of a list says of the search of both, and what a search comes to. Assumes nothing.
 use Prim.Native.Nat.{ℕ, _-_, _<_}
-use mathlib.Core.Path.{_≡_, refl, sym, ap, _∙_}
+use mathlib.Core.Path.{_≡_, refl, sym, ap}
 use mathlib.Core.Bool.{Bool, true, false, cond}
 use mathlib.Core.List.{List, [], _∷_}
 use mathlib.Core.Logic.{_⊎_, inl, inr, ⊎-elim}
@@ -23,6 +23,13 @@ use Rattle.find.specs.declared.Sought.the-variants.{Row, Missing, Endles
 use Rattle.find.specs.Parts.{firstIn, searched, soughtFrom}
 use Rattle.find.specs.Find.{on, findEdge, containsEdge, updateEdge}
 use Rattle.lists.proofs.Walks.{taken-below}
+
+-- whatever a search comes to
+pub sought-by : {A : Type 0} (P : A → Type 0) (s : Sought) (found : ℕ → A) (missing endless : A) → ((e : ℕ) → P (found e)) → P missing → P endless
+    → P (on s found missing endless)
+sought-by P (Row e k) found missing endless p q r = p (e .0)
+sought-by P Missing found missing endless p q r = q
+sought-by P Endless found missing endless p q r = r
 
 abbrev at-end : ℕ → Bool → Found
 at-end s b = cond b Found·.Broken (Found·.End (record { 0 = s }))

@@ -8,22 +8,18 @@ use native.Mathlib.Decide.{ℕ-discrete}
 use native.Mathlib.Omega.{arith}
 use borrow.Author.Tests.{le-leb, eq-eqb}
 use lib.IntN.{ℤ, pos}
-use lib.ListN.{length, getD, set, take, drop, replicate, length-append, length-drop, length-replicate, length-set, List·getD-append}
+use lib.ListN.{length, getD, set, take, drop, replicate, length-set, List·getD-append}
 use lib.Seq.{length-take-le, getD-take, getD-set-same, getD-set-other}
 use Rattle.index.specs.Index.{END}
 use Rattle.tables.specs.Net.{Net, net, fit, fits, nodeCells, edgeCells, nodeCell, edgeCell}
 use Rattle.tables.specs.Rows.{nodeRow, edgeRow, vacantNode, vacantEdge, filled}
 use Rattle.tables.proofs.Laws.{Fit, fit-says}
-use Rattle.tables.proofs.Vacant.{filled-at}
+use Rattle.tables.proofs.Vacant.{filled-at, filled-length}
 use Rattle.imagerows.specs.Image.{nodeIn, edgeIn, each, loaded}
 use Rattle.imagerows.proofs.Served.{loaded-is}
 
 -- a column past whose front all cells hold x
 module _ {A : Type 0} (l : List A) (first last : ℕ) (x : A) where
-  filled-length : first ≤ last → last ≤ length l → length (filled l first last x) ≡ length l
-  filled-length h k =
-      simp (length-append, length-replicate, length-drop, length-take-le first l (omega arith)) (omega arith)
-
   filled-before : (i : ℕ) (d : A) → i < first → first ≤ length l → getD (filled l first last x) i d ≡ getD l i d
   filled-before i d h k =
       List·getD-append (take first l) (replicate (last - first) x ++ drop last l) d i (rw (length-take-le first l k) h)

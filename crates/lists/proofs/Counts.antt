@@ -1,6 +1,6 @@
 -- What a loop that counts has counted when it ends. Assumes nothing.
 use Prim.Native.Nat.{ℕ, suc, _+_, _≤_, _<_}
-use mathlib.Core.Path.{_≡_, refl, sym, ap, _∙_}
+use mathlib.Core.Path.{_≡_, refl, ap, _∙_}
 use mathlib.Core.Bool.{Bool, true, false, cond}
 use mathlib.Core.List.{List, [], _∷_, _++_}
 use borrow.Author.Tests.{lt-ltb, le-ltb}
@@ -9,7 +9,6 @@ use lib.Dec.{ltb}
 use lib.ListN.{length, length-append}
 use Rattle.lists.specs.Walk.{walk, stop, filter}
 use Rattle.lists.specs.Parts.{countOf}
-use Rattle.lists.specs.declared.Counted.{Counted}
 use Rattle.lists.specs.declared.Counted.the-variants.{Rows, Broken}
 use Rattle.lists.proofs.Walks.{Along, all-met, stops-here, stops-short, filter-takes, filter-leaves}
 

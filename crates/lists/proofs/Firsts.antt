@@ -1,13 +1,12 @@
 -- The first row that a walk takes, told from how the loop that looks for it ends. Assumes nothing.
 use Prim.Native.Nat.{ℕ, _+_, _-_, _≤_, _<_}
-use mathlib.Core.Path.{_≡_, refl, sym, ap, ap₂, _∙_}
-use mathlib.Core.Bool.{Bool, true, false}
+use mathlib.Core.Path.{_≡_, ap, _∙_}
+use mathlib.Core.Bool.{Bool, true}
 use mathlib.Core.List.{List, [], _∷_, _++_}
 use borrow.Author.Tests.{lt-ltb, le-ltb}
 use native.Mathlib.Omega.{arith}
 use Rattle.lists.specs.Walk.{walk, stop, filter}
 use Rattle.lists.specs.Parts.{firstOf}
-use Rattle.lists.specs.declared.Found.{Found}
 use Rattle.lists.specs.declared.Found.the-variants.{At, End, Broken}
 use Rattle.lists.proofs.Walks.{Along, walk-out, rest, all-met, stops-here, stops-short, filter-append}
 

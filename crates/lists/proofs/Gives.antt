@@ -10,7 +10,7 @@ use lib.ListN.{length, getD, set, length-append, length-map, length-set}
 use lib.Seq.{getD-at}
 use Rattle.tables.proofs.Front.{front, front-more, front-all}
 use Rattle.lists.specs.Walk.{walk, filter}
-use Rattle.lists.proofs.Walks.{Along, rest, all-met, filter-append, filter-takes, filter-leaves}
+use Rattle.lists.proofs.Walks.{Along, rest, all-met, filter-append}
 use Rattle.lists.proofs.Counts.{count-takes, count-leaves}
 
 pub walk-length : (next : ℕ → ℕ) (m left e : ℕ) → length (walk next m left e) ≤ left

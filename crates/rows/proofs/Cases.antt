@@ -2,7 +2,6 @@
 use mathlib.Core.Path.{_≡_, refl}
 use lib.IntN.{pos, negsuc}
 use Rattle.tables.specs.Net.{Net, fit}
-use Rattle.tables.specs.Answers.{Out}
 use Rattle.tables.specs.Rows.{withNode, withEdge}
 use Rattle.tables.proofs.NetworkA.{empty, networkA}
 use Rattle.rows.specs.Calls.{addNode, addEdge, linked}

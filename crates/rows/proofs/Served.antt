@@ -1,7 +1,7 @@
 -- A call that is served, over plain columns: what its parts leave is what the definition says. Assumes nothing.
 use Prim.{tt}
 use Prim.Native.Nat.{ℕ, _+_, _*_, _<_, _≤_}
-use mathlib.Core.Path.{_≡_, refl}
+use mathlib.Core.Path.{_≡_}
 use mathlib.Core.Bool.{true}
 use mathlib.Core.List.{List, _++_}
 use borrow.Author.Tests.{lt-ltb, le-leb}

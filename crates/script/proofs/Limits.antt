@@ -9,8 +9,8 @@ use native.Mathlib.Omega.{arith}
 use borrow.Author.Tests.{leb-true}
 use lib.Dec.{leb}
 use lib.ListN.{length, take, length-append}
+use Rattle.tables.proofs.Laws.{tested}
 use Rattle.text.specs.Lines.{lines}
-use Rattle.commands.proofs.Ways.{tested}
 use Rattle.dispatch.specs.Step.{State}
 use Rattle.script.specs.Script.{mostBytes, answers, textOf, Ran, printed, begun, runFrom, run}
 

@@ -9,6 +9,7 @@ use lib.Dec.{eqb, ltb, leb}
 use lib.ListN.{length, drop, length-append}
 use Rattle.tables.specs.Net.{Net, fits}
 use Rattle.tables.specs.Answers.{Told, Out, out, onto, give}
+use Rattle.tables.proofs.Laws.{tested}
 use Rattle.rows.specs.Calls.{addNode, addEdge, clearEdges, clear}
 use Rattle.lists.specs.declared.Item.{Item}
 use Rattle.lists.specs.declared.Item.the-variants.{Number, Far, Weight}
@@ -26,7 +27,6 @@ use Rattle.reply.specs.declared.Reply.{Reply}
 use Rattle.reply.specs.Replies.{bareReply}
 use Rattle.reply.specs.Parts.{Listed}
 use Rattle.commands.specs.Commands.{Replied, replied, nothing, oneValue, oneNumber, counted, edgeGone, nodeGone, rowsRead, replyTo, addNodeLine, addEdgeLine, updateEdgeLine, findEdgeLine, removeEdgeLine, removeNodeLine, neighborsLine, edgesLine, edgesMutLine, edgesBetweenLine, sumAroundLine, checkLine, clearEdgesLine, clearLine}
-use Rattle.commands.proofs.Ways.{tested}
 use Rattle.dispatch.specs.declared.Numbers.{Numbers}
 use Rattle.dispatch.specs.Step.{State, step}
 use Rattle.dispatch.proofs.Keeps.{step-ways}

@@ -11,6 +11,7 @@ use lib.IntN.{ℤ}
 use lib.ListN.{length, length-append, length-map}
 use Rattle.tables.specs.Net.{Net, fits}
 use Rattle.tables.specs.Answers.{Told, Out, give}
+use Rattle.tables.proofs.Laws.{tested}
 use Rattle.rows.specs.Calls.{addNode, addEdge, clearEdges, clear}
 use Rattle.lists.specs.declared.Item.{Item}
 use Rattle.lists.specs.declared.Item.the-variants.{Number, Far, Weight}
@@ -22,6 +23,7 @@ use Rattle.lists.proofs.Gives.{walk-length}
 use Rattle.walks.specs.Legs.{Tables3, giveThree}
 use Rattle.walks.specs.Walks.{walked, neighbors, edges, edgesMut, edgesBetween}
 use Rattle.find.specs.Find.{sought, findEdge, updateEdge}
+use Rattle.find.proofs.Laws.{sought-by}
 use Rattle.walker.specs.Sums.{present, sumAround}
 use Rattle.sound.specs.Check.{checked, accepted, toldChecked}
 use Rattle.sound.proofs.Exactly.{sound-0}
@@ -33,8 +35,7 @@ use Rattle.stripping.proofs.Others.{filter-fewer}
 use Rattle.text.specs.Lines.{lines}
 use Rattle.reply.specs.declared.Reply.{Reply}
 use Rattle.commands.specs.Commands.{nothing, oneValue, oneNumber, counted, edgeGone, nodeGone, rowsRead, replyTo, addNodeLine, addEdgeLine, updateEdgeLine, findEdgeLine, removeEdgeLine, removeNodeLine, neighborsLine, edgesLine, edgesMutLine, edgesBetweenLine, sumAroundLine, checkLine, clearEdgesLine, clearLine}
-use Rattle.commands.proofs.Ways.{tested}
-use Rattle.commands.proofs.Kept.{Sane, sought-by}
+use Rattle.commands.proofs.Kept.{Sane}
 use Rattle.dispatch.specs.declared.Numbers.{Numbers}
 use Rattle.dispatch.specs.Step.{State, among, step}
 use Rattle.dispatch.proofs.Keeps.{step-ways}

@@ -13,6 +13,8 @@ use Rattle.tables.specs.Net.{Net, fits}
 use Rattle.tables.specs.Answers.{Out, onto, give}
 use Rattle.tables.specs.Rows.{withNode, withEdge, vacantNodes, vacantEdges}
 use Rattle.tables.proofs.Laws.{both}
+use Rattle.tables.proofs.Laws.{tested}
+use Rattle.tables.proofs.Vacant.{filled-length}
 use Rattle.rows.specs.Calls.{addNode, linked, addEdge, clearEdges, clear}
 use Rattle.lists.specs.declared.Item.{Item}
 use Rattle.lists.specs.declared.Item.the-variants.{Number, Near, Far, Weight}
@@ -22,6 +24,7 @@ use Rattle.lists.specs.Walk.{linkAt, gives, picks, around}
 use Rattle.walks.specs.Legs.{Tables3, roomFor, giveThree}
 use Rattle.walks.specs.Walks.{walked, neighbors, edges, edgesMut, edgesBetween}
 use Rattle.find.specs.Find.{sought, updateEdge}
+use Rattle.find.proofs.Laws.{sought-by}
 use Rattle.sound.specs.Sound.{lists}
 use Rattle.sound.specs.Check.{checked, accepted}
 use Rattle.sound.proofs.Kept.{fitOf}
@@ -33,8 +36,7 @@ use Rattle.stripping.specs.Heads.{Strip, strip, headOut, emptied, stripped}
 use Rattle.dropping.specs.Drop.{dropped}
 use Rattle.closing.proofs.NodeOuts.{node-out}
 use Rattle.commands.specs.Commands.{addNodeLine, addEdgeLine, updateEdgeLine, removeEdgeLine, removeNodeLine, neighborsLine, edgesLine, edgesMutLine, edgesBetweenLine, clearEdgesLine, clearLine}
-use Rattle.commands.proofs.Ways.{tested, node-ways}
-use Rattle.commands.proofs.Kept.{filled-length, sought-by}
+use Rattle.commands.proofs.Ways.{node-ways}
 use Rattle.dispatch.specs.declared.Numbers.{Numbers}
 use Rattle.dispatch.specs.Step.{State, step}
 use Rattle.dispatch.proofs.Keeps.{step-ways}

@@ -14,18 +14,17 @@ use lib.ListN.{length, getD, set, length-set}
 use lib.Seq.{getD-set-same, getD-set-other}
 use Rattle.index.specs.Index.{END}
 use Rattle.tables.specs.Net.{Net, net, fits, withNodes, withEdges, withCounts, nodeCells, nodeCell, edgeCell}
-use Rattle.tables.specs.Answers.{Out, unless}
+use Rattle.tables.specs.Answers.{Out}
 use Rattle.tables.specs.Rows.{bare, headsWith, linksWith, endsWith, withNode, withEdge, newEdge, headed, vacantNodes, vacantEdges}
-use Rattle.tables.proofs.Laws.{both, Fit, fit-says}
+use Rattle.tables.proofs.Laws.{both, Fit, fit-says, tested}
 use Rattle.tables.proofs.Vacant.{filled-at}
 use Rattle.lookups.specs.Lookups.{setNodeWeight, setEdgeWeight}
 use Rattle.rows.specs.Calls.{addNode, linked, addEdge, clear, clearEdges}
 use Rattle.lists.specs.declared.Spot.{Spot}
 use Rattle.lists.specs.declared.Spot.the-variants.{Head, After}
 use Rattle.lists.specs.Walk.{linkAt}
-use Rattle.find.specs.declared.Sought.{Sought}
-use Rattle.find.specs.declared.Sought.the-variants.{Row, Missing, Endless}
-use Rattle.find.specs.Find.{sought, on, updateEdge}
+use Rattle.find.specs.Find.{sought, updateEdge}
+use Rattle.find.proofs.Laws.{sought-by}
 use Rattle.sound.specs.Sound.{endAt, Sound, Lists}
 use Rattle.sound.specs.Kept.{nodeMore, edgeMore, bareLists}
 use Rattle.sound.proofs.Same.{counts, members}
@@ -75,25 +74,19 @@ other-weights : (g : Net) (weights : List ℤ) (registers : List ℕ) → Agree 
 other-weights g weights registers =
     record { nodes = refl; edges = refl; heads = λ k c l h. refl; nexts = λ k x l h. refl; ends = λ k x l h. refl }
 
--- what holds of the network that a call leaves, served or refused
-left : {A : Type 0} (P : Net → Type 0) (b : Bool) (refusal served : Out A Net) → P (refusal .after) → (b ≡ true → P (served .after))
-    → P (unless b refusal served .after)
-left P true refusal served p q = q refl
-left P false refusal served p q = p
-
 -- the sets keep every list
 pub node-set : (g : Net) (ls : ℕ → ℕ → List ℕ) (a : ℕ) (w : ℤ) → Sound g ls → Sound (setNodeWeight g a w .after) ls
 unfolding setNodeWeight
 node-set g ls a w S =
-    left (λ h. Sound h ls) (fits g) _ _ S (λ f.
-    left (λ h. Sound h ls) (ltb a (g .n)) _ _ S (λ l.
+    tested (λ o. Sound (o .after) ls) (fits g) _ _ S (λ f.
+    tested (λ o. Sound (o .after) ls) (ltb a (g .n)) _ _ S (λ l.
     in-use g (withNodes g (set (g .weights) a w) (g .heads)) ls f (other-weights g (set (g .weights) a w) (g .registers)) S))
 
 pub edge-set : (g : Net) (ls : ℕ → ℕ → List ℕ) (e w : ℕ) → Sound g ls → Sound (setEdgeWeight g e w .after) ls
 unfolding setEdgeWeight
 edge-set g ls e w S =
-    left (λ h. Sound h ls) (fits g) _ _ S (λ f.
-    left (λ h. Sound h ls) (ltb e (g .m)) _ _ S (λ l.
+    tested (λ o. Sound (o .after) ls) (fits g) _ _ S (λ f.
+    tested (λ o. Sound (o .after) ls) (ltb e (g .m)) _ _ S (λ l.
     in-use g (withEdges g (set (g .registers) e w) (g .links) (g .ends)) ls f (other-weights g (g .weights) (set (g .registers) e w)) S))
 
 -- the network with row n a bare node
@@ -218,16 +211,16 @@ HasLists g = (ls : ℕ → ℕ → List ℕ) × Sound g ls
 pub node-kept : (g : Net) (ls : ℕ → ℕ → List ℕ) (w : ℤ) → Sound g ls → HasLists (addNode g w .after)
 unfolding addNode withNode
 node-kept g ls w S =
-    left HasLists (fits g) _ _ (ls, S) (λ f.
-    left HasLists (ltb (g .n) (length (g .weights))) _ _ (ls, S) (λ l.
+    tested (λ o. HasLists (o .after)) (fits g) _ _ (ls, S) (λ f.
+    tested (λ o. HasLists (o .after)) (ltb (g .n) (length (g .weights))) _ _ (ls, S) (λ l.
     (nodeMore (g .n) ls, noded-sound g ls w f (ltb-true (g .n) (length (g .weights)) l) S)))
 
 pub edge-kept : (g : Net) (ls : ℕ → ℕ → List ℕ) (a b w : ℕ) → Sound g ls → HasLists (addEdge g a b w .after)
 unfolding addEdge linked withEdge
 edge-kept g ls a b w S =
-    left HasLists (fits g) _ _ (ls, S) (λ f.
-    left HasLists (ltb (g .m) (length (g .registers))) _ _ (ls, S) (λ l.
-    left HasLists (ltb a (g .n) && ltb b (g .n)) _ _ (ls, S) (λ e.
+    tested (λ o. HasLists (o .after)) (fits g) _ _ (ls, S) (λ f.
+    tested (λ o. HasLists (o .after)) (ltb (g .m) (length (g .registers))) _ _ (ls, S) (λ l.
+    tested (λ o. HasLists (o .after)) (ltb a (g .n) && ltb b (g .n)) _ _ (ls, S) (λ e.
     let i = both (ltb a (g .n)) (ltb b (g .n)) e in (
       edgeMore (g .m) a b ls,
       edged-sound g ls a b w f (ltb-true (g .m) (length (g .registers)) l) (ltb-true a (g .n) (i .0)) (ltb-true b (g .n) (i .1)) S,
@@ -246,22 +239,12 @@ unfolding clear
 clear-kept g ls S = kept-by g (clear g .after) ls (fits g) (λ f. (bareLists, all-cleared g f)) (λ f. rw f) S
 
 -- an update leaves every list as it was, or is an add
-module _ {A : Type 0} (P : Out A Net → Type 0) where
-  pub either : (b : Bool) (refusal served : Out A Net) → P refusal → (b ≡ true → P served) → P (unless b refusal served)
-  either true refusal served p q = q refl
-  either false refusal served p q = p
-
-  sought-by : (s : Sought) (found : ℕ → Out A Net) (missing endless : Out A Net) → ((e : ℕ) → P (found e)) → P missing → P endless → P (on s found missing endless)
-  sought-by (Row e k) found missing endless p q r = p (e .0)
-  sought-by Missing found missing endless p q r = q
-  sought-by Endless found missing endless p q r = r
-
 pub updated : (g : Net) (ls : ℕ → ℕ → List ℕ) (a b w : ℕ) → Sound g ls → Sound (updateEdge g a b w .after) ls ⊎ (updateEdge g a b w ≡ addEdge g a b w)
 unfolding updateEdge
 updated g ls a b w S =
     let P : Out ℕ Net → Type 0 = λ o. Sound (o .after) ls ⊎ (o ≡ addEdge g a b w) in
-    either P (fits g) _ _ (inl S) (λ f.
-    either P (ltb a (g .n)) _ _ (inr refl) (λ l.
+    tested P (fits g) _ _ (inl S) (λ f.
+    tested P (ltb a (g .n)) _ _ (inr refl) (λ l.
     sought-by P (sought g a b) _ _ _
     (λ e. inl (in-use g (withEdges g (set (g .registers) e w) (g .links) (g .ends)) ls f (other-weights g (g .weights) (set (g .registers) e w)) S))
     (inr refl)

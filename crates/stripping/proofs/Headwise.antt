@@ -1,6 +1,6 @@
 -- One turn of the stripping: the head of node a's list of direction k is taken out. Assumes nothing.
 use Prim.Native.Nat.{ℕ, zero, suc, _+_, _*_, _-_, _≤_, _<_}
-use mathlib.Core.Path.{_≡_, refl, sym, ap, ap₂, _∙_, subst}
+use mathlib.Core.Path.{_≡_, refl, sym, ap, _∙_, subst}
 use mathlib.Core.Bool.{true, false}
 use mathlib.Core.List.{List, [], _∷_, _++_, append-assoc, append-nil}
 use native.Mathlib.Nat.{not-suc-le-zero, le-of-suc-le-suc}
@@ -15,7 +15,7 @@ use Rattle.index.specs.declared.EdgeDirection.the-variants.{Outgoing, Incoming}
 use Rattle.index.specs.Index.{END, isEnd, numberOf}
 use Rattle.index.specs.Refusals.{refusalNo}
 use Rattle.index.proofs.Laws.{not-zero}
-use Rattle.tables.specs.Net.{Net, net, fits, nodeCell}
+use Rattle.tables.specs.Net.{net, fits, nodeCell}
 use Rattle.tables.specs.Answers.{out, done}
 use Rattle.lists.specs.declared.Spot.the-variants.{Head}
 use Rattle.lists.specs.Walk.{linkIn}

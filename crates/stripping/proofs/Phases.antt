@@ -1,6 +1,6 @@
 -- The stripping, one direction after the other. Assumes nothing.
 use Prim.Native.Nat.{ℕ, zero, suc, _+_, _*_, _-_, _≤_, _<_}
-use mathlib.Core.Path.{_≡_, refl, sym, ap, _∙_, subst}
+use mathlib.Core.Path.{_≡_, refl, sym, ap, _∙_}
 use mathlib.Core.Bool.{true, false}
 use mathlib.Core.List.{List, [], _∷_, _++_}
 use native.Mathlib.Numerals.{add-one}
@@ -12,7 +12,7 @@ use Rattle.index.specs.Index.{isEnd}
 use Rattle.tables.specs.Net.{Net, net}
 use Rattle.tables.specs.Answers.{onto}
 use Rattle.lists.specs.declared.Spot.the-variants.{Head}
-use Rattle.lists.specs.Walk.{linkIn, linkAt}
+use Rattle.lists.specs.Walk.{linkIn}
 use Rattle.sound.proofs.Kept.{fitOf}
 use Rattle.removal.specs.Removal.{takenOut}
 use Rattle.stripping.specs.Heads.{Strip, strip, headOut, emptied, stripped}

@@ -1,9 +1,10 @@
--- What the test for answer 1 says, read off a call of it. Assumes nothing.
+-- What the test for answer 1 says, read off a call of it; what holds whether a test passes or not: `tested`. Assumes nothing.
 use Prim.Native.Nat.{ℕ, _*_, _≤_}
 use mathlib.Core.Path.{_≡_, refl, sym, _∙_}
 use mathlib.Core.Bool.{Bool, true, false, not, _&&_}
 use lib.Dec.{leb, eqb}
 use borrow.Author.Tests.{leb-true, eqb-true, not-true, not-false}
+use Rattle.tables.specs.Answers.{unless}
 use Rattle.tables.specs.Net.{fit, nodeRows, edgeRows, nodeCells, edgeCells}
 
 and-l : (a b : Bool) → (a && b) ≡ true → a ≡ true
@@ -62,3 +63,8 @@ fitted {r} {b} e h = sym e ∙ not-false r h
 pub fitting : {weights heads registers links ends n m : ℕ} {r : Bool} → r ≡ fit weights heads registers links ends n m → not r ≡ false
     → Fit weights heads registers links ends n m
 fitting {weights} {heads} {registers} {links} {ends} {n} {m} e h = fit-says weights heads registers links ends n m (fitted e h)
+
+-- what holds of a refusal, and where the test passes of the rest
+pub tested : {X : Type 0} (P : X → Type 0) (b : Bool) (refusal rest : X) → P refusal → (b ≡ true → P rest) → P (unless b refusal rest)
+tested P true refusal rest p q = q refl
+tested P false refusal rest p q = p

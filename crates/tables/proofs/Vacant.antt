@@ -1,10 +1,10 @@
--- The rows of a span made vacant are vacant rows. Assumes nothing.
+-- The rows of a span made vacant are vacant rows, and the column keeps its length. Assumes nothing.
 use Prim.Native.Nat.{ℕ, _+_, _-_, _*_, _≤_, _<_}
-use mathlib.Core.Path.{_≡_, refl, sym, ap, _∙_}
+use mathlib.Core.Path.{_≡_, ap, _∙_}
 use mathlib.Core.List.{List, _++_}
 use native.Mathlib.Omega.{arith}
 use lib.IntN.{pos}
-use lib.ListN.{length, getD, take, drop, replicate, getD-replicate, length-replicate, List·getD-append}
+use lib.ListN.{length, getD, take, drop, replicate, getD-replicate, length-append, length-drop, length-replicate, List·getD-append}
 use lib.Seq.{length-take-le, getD-append-add}
 use Rattle.index.specs.Index.{END}
 use Rattle.tables.specs.Net.{Net, nodeCells, edgeCells, nodeCell, edgeCell}
@@ -21,6 +21,10 @@ filled-at l first last x i d h g r =
     ∙ getD-append-add (take first l) (replicate (last - first) x ++ drop last l) (i - first) d
     ∙ List·getD-append (replicate (last - first) x) (drop last l) d (i - first) k
     ∙ getD-replicate (last - first) (i - first) x d (omega arith)
+
+pub filled-length : {A : Type 0} (l : List A) (first last : ℕ) (x : A) → first ≤ last → last ≤ length l → length (filled l first last x) ≡ length l
+filled-length l first last x h k =
+    simp (length-append, length-replicate, length-drop, length-take-le first l (omega arith)) (omega arith)
 
 module _ (g : Net) (first last : ℕ) where
   pub vacant-node : NodeSpan (length (g .weights)) (length (g .heads)) first last → (a : ℕ) → first ≤ a → a < last → nodeRow (vacantNodes g first last) a ≡ vacantNode

@@ -1,11 +1,10 @@
 -- A step along the incoming list, told from what the search for its row finds. Assumes nothing.
-use Prim.Native.Nat.{ℕ, zero, suc, _≤_, _<_}
+use Prim.Native.Nat.{ℕ, _≤_, _<_}
 use mathlib.Core.Path.{_≡_, refl, sym, _∙_}
 use mathlib.Core.Bool.{Bool, true, false, cond}
 use mathlib.Core.List.{List, [], _∷_}
 use lib.Dec.{ltb}
-use borrow.Author.Tests.{lt-ltb, le-ltb}
-use native.Mathlib.Decide.{decLt}
+use borrow.Author.Tests.{le-ltb}
 use native.Mathlib.Omega.{arith}
 use Rattle.index.specs.declared.EdgeIndex.{EdgeIndex}
 use Rattle.index.specs.declared.Refusal.the-variants as Refusal·

@@ -1,6 +1,6 @@
 -- No two answers are told alike: number and values, and a step's walker, give the answer back. Assumes nothing.
 use Prim.Native.Nat.{ℕ}
-use mathlib.Core.Path.{_≡_, refl, sym, ap, _∙_}
+use mathlib.Core.Path.{_≡_, refl}
 use lib.IntN.{ℤ, pos}
 use Rattle.index.proofs.Laws.{untold, untold-refusal}
 use Rattle.tables.specs.Answers.{Told, Out, out}

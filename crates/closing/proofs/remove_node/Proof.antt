@@ -1,6 +1,5 @@
 -- `remove_node` meets its contract: each `return` is what the definition gives past the tests that led there. Assumes nothing.
-use mathlib.Core.Path.{_≡_, sym, ap, _∙_}
-use native.Mathlib.Omega.{arith}
+use mathlib.Core.Path.{sym, ap, _∙_}
 use Rattle.tables.proofs.Laws.{misfit, fitted}
 use Rattle.sound.specs.Check.{accepted}
 use Rattle.closing.specs.Closing.{removeNode}

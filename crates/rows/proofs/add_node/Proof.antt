@@ -1,6 +1,6 @@
 -- `rows::add_node` meets its contract: each `return` rewrites with the tests that led there. Assumes nothing.
 use borrow.Author.Needs.{needs}
-use borrow.Author.Tests.{lt-ltb, le-ltb}
+use borrow.Author.Tests.{le-ltb}
 use native.Mathlib.Omega.{arith}
 use mir.Facts.{toZ-ofZ}
 use Rattle.rows.specs.Calls.{addNode}

@@ -1,8 +1,5 @@
 -- `close` meets its contract. Assumes nothing.
-use Prim.Native.Nat.{_*_, _≤_, _<_}
-use mathlib.Core.Path.{_≡_, sym, _∙_}
 use native.Mathlib.Omega.{arith}
-use Rattle.tables.specs.Net.{net}
 use Rattle.closing.proofs.Closes.{fit-of, not-broken, count-is, enough, too-short, long-enough}
 use borrow.Author.Needs.{needs}
 use Rattle.closing.proofs.parts.close.Statement.{statement}

@@ -1,6 +1,4 @@
 -- `take_node` meets its contract. Assumes nothing.
-use Prim.Native.Nat.{_+_, _*_, _≤_, _<_}
-use mathlib.Core.Path.{_≡_}
 use native.Mathlib.Omega.{arith}
 use lib.IntN.{pos}
 use lib.ListN.{getD}

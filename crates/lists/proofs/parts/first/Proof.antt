@@ -1,14 +1,10 @@
 -- `parts::first` meets its contract: of the rows met so far the walk takes none. Assumes nothing.
 use Prim.Native.Nat.{ℕ, _-_}
-use mathlib.Core.Path.{_≡_, refl, sym, ap, _∙_}
+use mathlib.Core.Path.{_≡_, refl, sym, _∙_}
 use mathlib.Core.List.{List, [], _∷_, _++_}
 use borrow.Author.Needs.{needs}
-use borrow.Author.Tests.{lt-ltb, le-ltb}
-use native.Mathlib.Omega.{arith}
-use denote.Ref.{now}
-use lib.ListN.{length}
 use Rattle.lists.specs.Walk.{cell, filter, picked}
-use Rattle.lists.proofs.Walks.{Along, begins, onward, rest, all-met, stops-here, stops-short, filter-leaves}
+use Rattle.lists.proofs.Walks.{Along, begins, onward, filter-leaves}
 use Rattle.lists.proofs.Firsts.{first-hit, first-end, first-broken}
 use Rattle.lists.proofs.parts.first.Statement.{statement}
 use Rattle.lists.proofs.parts.first.Tie as tie

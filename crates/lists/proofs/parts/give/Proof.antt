@@ -1,13 +1,12 @@
 -- `parts::give` meets its contract: the items of the rows met so far stand at the front. Assumes nothing.
-use Prim.Native.Nat.{ℕ, _-_, _<_, _≤_}
-use mathlib.Core.Path.{_≡_, refl, sym, _∙_}
+use Prim.Native.Nat.{ℕ, _-_, _≤_}
+use mathlib.Core.Path.{refl, sym, _∙_}
 use mathlib.Core.Logic.{⊎-elim}
 use mathlib.Core.List.{List, [], _∷_, _++_, map}
 use borrow.Author.Needs.{needs}
 use native.Mathlib.Omega.{arith}
 use denote.Ref.{now}
-use lib.ListN.{length}
-use Rattle.lists.specs.Walk.{cell, filter, picked, itemOf, rowsFrom, takenFrom}
+use Rattle.lists.specs.Walk.{cell, filter, picked, itemOf, takenFrom}
 use Rattle.lists.proofs.Walks.{Along, begins, onward}
 use Rattle.lists.proofs.Gives.{Giving, short, below, room, gives-row, passes-row, given}
 use Rattle.lists.proofs.parts.give.Statement.{statement}
