@@ -98,11 +98,15 @@ sound-walk-list κs given x y p q = answers-alike p q
 pub sound-walk-lists : Settles sound.parts.walk_lists.ended sound.parts.walk_lists.Reads.Post
 sound-walk-lists κs given x y p q = answers-alike p q
 
-pub links-search : Settles links.parts.search.ended links.parts.search.Reads.Post
-links-search κs given x y p q = answers-alike p q
+pub links-change-link : Settles links.parts.change_link.ended links.parts.change_link.Reads.Post
+links-change-link κs given x y p q =
+    let r = alike (p .answer-is) (q .answer-is) in
+    λ i. (r i, (alike (rw r at (p .heads-are)) (q .heads-are) i, (alike (rw r at (p .links-are)) (q .links-are) i, _)))
 
-pub links-locate : Settles links.parts.locate.ended links.parts.locate.Reads.Post
-links-locate κs given x y p q = answers-alike p q
+pub links-change-edge-links : Settles links.parts.change_edge_links.ended links.parts.change_edge_links.Reads.Post
+links-change-edge-links κs given x y p q =
+    let r = alike (p .answer-is) (q .answer-is) in
+    λ i. (r i, (alike (rw r at (p .heads-are)) (q .heads-are) i, (alike (rw r at (p .links-are)) (q .links-are) i, _)))
 
 pub links-relink : Settles links.parts.relink.ended links.parts.relink.Reads.Post
 links-relink κs given x y p q = λ i. (_, (alike (p .0) (q .0) i, (alike (p .1) (q .1) i, _)))
@@ -115,9 +119,6 @@ links-move-last κs given x y p q = λ i. (_, (alike (p .registers-are) (q .regi
 
 pub removal-take-out : Settles removal.parts.take_out.ended removal.parts.take_out.Reads.Post
 removal-take-out κs given x y p q = ap (λ o. (o .0, (o .1 .heads, (o .1 .registers, (o .1 .links, (o .1 .ends, (_, (o .1 .m, _)))))))) (told-alike toldEdgeRemoved edge-removed-told-once (p []) (q []))
-
-pub removal-bypass : Settles removal.parts.bypass.ended removal.parts.bypass.Reads.Post
-removal-bypass κs given x y p q = ap (λ o. (o .0, (o .1 .heads, (o .1 .registers, (o .1 .links, (o .1 .ends, (_, (o .1 .m, _)))))))) (told-alike toldEdgeRemoved edge-removed-told-once (p []) (q []))
 
 pub removal-fill-gap : Settles removal.parts.fill_gap.ended removal.parts.fill_gap.Reads.Post
 removal-fill-gap κs given x y p q = ap (λ o. (o .0, (o .1 .heads, (o .1 .registers, (o .1 .links, (o .1 .ends, (_, (o .1 .m, _)))))))) (told-alike toldEdgeRemoved edge-removed-told-once (p []) (q []))

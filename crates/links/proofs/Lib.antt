@@ -1,2 +1,4 @@
 pub mod Seeks
 pub mod Hits
+pub mod Stores
+pub mod Walks

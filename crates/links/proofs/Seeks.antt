@@ -1,7 +1,6 @@
--- The clauses of `seek`, each under the facts that choose it; `link` is what stands at the spot s. Where a search starts: `seek-starts`. Assumes nothing.
+-- The clauses of `seek`, each under the facts that choose it; `link` is what stands at the spot s. Where a search starts: `seek-starts`, `seek-nowhere`. Assumes nothing.
 use Prim.Native.Nat.{ℕ, zero, suc, _+_, _-_, _≤_, _<_}
 use mathlib.Core.Path.{_≡_}
-use native.Mathlib.Nat.{sub-zero}
 use native.Mathlib.Omega.{arith}
 use borrow.Author.Tests.{lt-ltb, le-ltb, eq-eqb, ne-eqb}
 use Rattle.lists.specs.declared.Spot.{Spot}
@@ -36,7 +35,12 @@ module _ (lk : Spot → ℕ) (m e : ℕ) (s : Spot) (rows : ℕ) {link : ℕ} (i
       let z : m - rows ≡ suc (m - (rows + 1)) = omega arith in
       rw z (seek-on (m - (rows + 1)) h p)
 
--- from the head on, with no row read
-pub seek-starts : (lk : Spot → ℕ) (node : ℕ → ℕ) (n m e : ℕ) → node e < n → seek lk m e (m - 0) (Head (node e)) 0 ≡ searched lk node n m e
-unfolding searched
-seek-starts lk node n m e l = rw (lt-ltb (node e) n l, sub-zero)
+-- from the head on, if the node is there
+module _ (lk : Spot → ℕ) (node : ℕ → ℕ) (n m e : ℕ) where
+  pub seek-starts : node e < n → searched lk node n m e ≡ seek lk m e m (Head (node e)) 0
+  unfolding searched
+  seek-starts l = rw (lt-ltb (node e) n l)
+
+  pub seek-nowhere : n ≤ node e → searched lk node n m e ≡ Lost
+  unfolding searched
+  seek-nowhere l = rw (le-ltb (node e) n l)

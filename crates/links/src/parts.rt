@@ -1,10 +1,8 @@
-// The search for an edge, a link led elsewhere, a row moved.
+// The links to an edge found and led elsewhere, a row moved.
 ghost use mathlib.Core.Path.{_≡_};
-ghost use Prim.Native.Nat.{_<_};
 ghost use lib.ListN.{length};
-ghost use Rattle.lists.specs.Walk.{cell, linkIn};
-ghost use Rattle.links.specs.Links.{searched, located, headsAt, linksAt};
-ghost use Rattle.links.specs.Parts.{Within, Place, Places, Leads, Rows, MovesLast};
+ghost use Rattle.links.specs.Links.{headsAt, linksAt};
+ghost use Rattle.links.specs.Parts.{Start, Within, ChangesLink, ChangesLinks, Place, Places, Leads, Rows, MovesLast};
 use crate::Located;
 use crate::Search;
 use index::EdgeIndex;
@@ -19,51 +17,77 @@ use tables::parts::SOURCE;
 use tables::parts::TARGET;
 use tables::parts::write_edge;
 
-// Edge e in its node's list of direction k. A link equal to e ends the search; so does one that leads nowhere, or the m-th row.
-pub fn search(
-    heads: &[u32],
-    links: &[u32],
-    ends: &[u32],
-    n: u32,
+// The link to e in a's list of direction k leads to v instead; where e is not met within m rows nothing changes.
+// `first` is the head of that list: the caller reads the heads of both lists before it walks along one, so that neither waits for the other.
+pub fn change_link(
+    heads: &mut [u32],
+    links: &mut [u32],
     m: u32,
     k: usize,
+    a: NodeIndex,
+    first: u32,
     e: EdgeIndex,
+    v: u32,
 ) -> Search
-    requires { ⌜ Within (length (now heads)) (length (now links)) (length (now ends)) n m (e .0) × (k < 2) ⌝ }
-    ensures { λ r. ⌜ r ≡ searched (linkIn (now (heads .entry)) (now (links .entry)) k) (cell (now (ends .entry)) k) n m (e .0) ⌝ }
+    requires { ⌜ Start (now heads) (length (now links)) m k (a .0) first ⌝ }
+    ensures { λ r. ⌜ ChangesLink heads links m k (a .0) (e .0) v r ⌝ }
 {
-    let a = NodeIndex(ends[EDGE_CELLS * e.index() + k]);
-    if n <= a.0 {
-        return Search::Lost;
+    if first == e.0 {
+        heads[NODE_CELLS * a.index() + k] = v;
+        return Search::At(Spot::Head(a.0), 0);
     }
-    let mut spot = Spot::Head(a.0);
-    let mut link = heads[NODE_CELLS * a.index() + k];
+    let mut link = first;
     let mut rows = 0;
     loop {
-        if link == e.0 {
-            break Search::At(spot, rows);
-        }
         if rows == m {
             break Search::Lost;
         }
         if m <= link {
             break Search::Lost;
         }
-        spot = Spot::After(link);
-        link = links[EDGE_CELLS * EdgeIndex(link).index() + k];
+        let cell = EDGE_CELLS * EdgeIndex(link).index() + k;
+        let next = links[cell];
         rows += 1;
+        if next == e.0 {
+            links[cell] = v;
+            break Search::At(Spot::After(link), rows);
+        }
+        link = next;
     }
 }
 
-// Edge e in its source's outgoing and in its target's incoming list.
-pub fn locate(heads: &[u32], links: &[u32], ends: &[u32], n: u32, m: u32, e: EdgeIndex) -> Located
+// The links to e in its source's outgoing and in its target's incoming list lead to v and to w instead; where e is not met in both, all is as it was.
+pub fn change_edge_links(
+    heads: &mut [u32],
+    links: &mut [u32],
+    ends: &[u32],
+    n: u32,
+    m: u32,
+    e: EdgeIndex,
+    v: u32,
+    w: u32,
+) -> Located
     requires { ⌜ Within (length (now heads)) (length (now links)) (length (now ends)) n m (e .0) ⌝ }
-    ensures { λ r. ⌜ r ≡ located (now (heads .entry)) (now (links .entry)) (now (ends .entry)) n m (e .0) ⌝ }
+    ensures { λ r. ⌜ ChangesLinks heads links (now (ends .entry)) n m (e .0) v w r ⌝ }
 {
-    match search(heads, links, ends, n, m, OUTGOING, e) {
+    let cell = EDGE_CELLS * e.index();
+    let a = NodeIndex(ends[cell + SOURCE]);
+    let b = NodeIndex(ends[cell + TARGET]);
+    if n <= a.0 {
+        return Located::Lost;
+    }
+    if n <= b.0 {
+        return Located::Lost;
+    }
+    let first = heads[NODE_CELLS * a.index() + OUTGOING];
+    let second = heads[NODE_CELLS * b.index() + INCOMING];
+    match change_link(heads, links, m, OUTGOING, a, first, e, v) {
         Search::Lost => Located::Lost,
-        Search::At(s, q) => match search(heads, links, ends, n, m, INCOMING, e) {
-            Search::Lost => Located::Lost,
+        Search::At(s, q) => match change_link(heads, links, m, INCOMING, b, second, e, w) {
+            Search::Lost => {
+                relink(heads, links, OUTGOING, s, e.0);
+                Located::Lost
+            }
             Search::At(t, r) => Located::At(s, t, q + r),
         },
     }

@@ -1,7 +1,7 @@
 -- What is stored by a removal, cell by cell and in either direction: links led elsewhere, `led-link`; the last row vacant, `last-out`, or moved
 -- into another's place, `last-into`. Assumes nothing.
 use Prim.Native.Nat.{ℕ, _*_, _≤_, _<_}
-use mathlib.Core.Path.{_≡_, refl, ap, _∙_}
+use mathlib.Core.Path.{_≡_, refl, _∙_}
 use mathlib.Core.Bool.{true}
 use mathlib.Core.List.{List}
 use native.Mathlib.Decide.{ℕ-discrete}
@@ -11,7 +11,7 @@ use lib.ListN.{length, getD, set, length-set}
 use lib.Seq.{getD-set-same, getD-set-other}
 use Rattle.index.specs.Index.{END}
 use Rattle.tables.specs.declared.row.Edge.{Edge}
-use Rattle.tables.specs.Net.{Net, fits, fit, withCounts, nodeRows, edgeRows, nodeCells, edgeCells, nodeCell, edgeCell}
+use Rattle.tables.specs.Net.{Net, fits, fit, withCounts, nodeRows, edgeRows, nodeCells, edgeCells, edgeCell}
 use Rattle.tables.specs.Rows.{withEdge, vacantEdge, edgeRow}
 use Rattle.lists.specs.declared.Spot.{Spot}
 use Rattle.lists.specs.declared.Spot.the-variants.{Head, After}
@@ -23,33 +23,8 @@ use Rattle.links.specs.Links.{headsAt, linksAt, led}
 use Rattle.removal.specs.Removal.{lastOut, lastInto}
 use Rattle.removal.specs.Lists.{renamed}
 use Rattle.links.specs.Parts.{Place}
-
--- a link stored at one spot of one direction
-module _ (heads links : List ℕ) where
-  lead-at : (k : ℕ) (s : Spot) (v : ℕ) → Place (length heads) (length links) k s → linkIn (headsAt k s v heads) (linksAt k s v links) k s ≡ v
-  unfolding Place headsAt linksAt
-  lead-at k (Head a) v h = getD-set-same heads (nodeCell a k) v 0 h
-  lead-at k (After p) v h = getD-set-same links (edgeCell p k) v 0 h
-
-  pub lead-off : (j k : ℕ) (s t : Spot) (v : ℕ) → j < 2 → k < 2 → (j ≡ k → t ≡ s → ⊥)
-      → linkIn (headsAt j s v heads) (linksAt j s v links) k t ≡ linkIn heads links k t
-  unfolding headsAt linksAt
-  lead-off j k (Head a) (Head b) v p q d =
-      getD-set-other heads (nodeCell a j) (nodeCell b k) v 0 (λ h. let z : b ≡ a = omega arith in d (omega arith) (ap Head z))
-  lead-off j k (Head a) (After y) v p q d = refl
-  lead-off j k (After x) (Head b) v p q d = refl
-  lead-off j k (After x) (After y) v p q d =
-      getD-set-other links (edgeCell x j) (edgeCell y k) v 0 (λ h. let z : y ≡ x = omega arith in d (omega arith) (ap After z))
-
-pub heads-length : (heads : List ℕ) (k : ℕ) (s : Spot) (v : ℕ) → length (headsAt k s v heads) ≡ length heads
-unfolding headsAt
-heads-length heads k (Head a) v = length-set heads (nodeCell a k) v
-heads-length heads k (After p) v = refl
-
-pub links-length : (links : List ℕ) (k : ℕ) (s : Spot) (v : ℕ) → length (linksAt k s v links) ≡ length links
-unfolding linksAt
-links-length links k (Head a) v = refl
-links-length links k (After p) v = length-set links (edgeCell p k) v
+use Rattle.links.proofs.Stores.{lead-at}
+pub use Rattle.links.proofs.Stores.{lead-off, heads-length, links-length}
 
 -- the links at s 0 and s 1 lead to v 0 and v 1, the others as before
 pub led-link : (g : Net) (s : ℕ → Spot) (v : ℕ → ℕ) → ((k : ℕ) → k < 2 → Place (length (g .heads)) (length (g .links)) k (s k)) → (k : ℕ) → k < 2

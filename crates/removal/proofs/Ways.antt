@@ -7,7 +7,7 @@ use native.Mathlib.Omega.{arith}
 use borrow.Author.Tests.{eq-eqb, ne-eqb, lt-ltb, le-ltb}
 use lib.IntN.{ℤ}
 use lib.ListN.{getD, set}
-use lib.Seq.{set-set, set-comm, set-getD}
+use lib.Seq.{set-comm}
 use Rattle.index.specs.declared.Refusal.the-variants.{NoEdge, Broken}
 use Rattle.index.specs.Index.{END}
 use Rattle.tables.specs.Net.{Net, net, fits, nodeCell, edgeCell}
@@ -18,6 +18,7 @@ use Rattle.lists.specs.declared.Spot.the-variants.{Head, After}
 use Rattle.lists.specs.Walk.{cell, linkIn}
 use Rattle.links.specs.declared.Located.the-variants as Located·
 use Rattle.links.specs.Links.{located, headsAt, linksAt, led}
+use Rattle.links.proofs.Stores.{back}
 use Rattle.removal.specs.Removal.{Gone, bypassed, lastOut, lastInto, lastMoved, gone, takenOut, removeEdge}
 
 -- the two links of a network led elsewhere, column by column
@@ -42,10 +43,6 @@ module _ (W : List ℤ) (H R L E : List ℕ) (n m e : ℕ) (s t : Spot) (rows : 
       ≡ lastMoved (led (net W H R L E n m) s t e e) (net W H R L E n m) e (m - 1) rows
   unfolding lastMoved lastInto lastOut withEdge led
   last-moves u v more at H₂ L₂ R₃ L₃ E₃ i z p q r₁ r₂ r₃ = rw (i, z, r₁, r₂, r₃, p, q)
-
--- what stood in a cell goes back there
-back : (l : List ℕ) (i v e : ℕ) → getD l i 0 ≡ e → set (set l i v) i e ≡ l
-back l i v e h = rw (← h) (set-set l i v (getD l i 0) ∙ set-getD l i 0)
 
 both-back : (l : List ℕ) (i j v w e : ℕ) → (i ≡ j → ⊥) → getD l i 0 ≡ e → getD l j 0 ≡ e → set (set (set (set l i v) j w) i e) j e ≡ l
 both-back l i j v w e d p q =

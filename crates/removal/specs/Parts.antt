@@ -5,30 +5,20 @@ use mathlib.Core.List.{List}
 use denote.Ref.{RefT, now}
 use denote.Triple.Both.{Both}
 use lib.IntN.{ℤ}
-use lib.ListN.{length}
 use Rattle.tables.specs.Net.{Lent, net}
 use Rattle.tables.specs.Answers.{out}
 use Rattle.lists.specs.declared.Spot.{Spot}
-use Rattle.lists.specs.Walk.{linkIn}
 use Rattle.links.specs.Links.{led}
 use Rattle.links.specs.Parts.{Within, Places}
 use Rattle.removal.specs.declared.EdgeRemoved.{EdgeRemoved}
-use Rattle.removal.specs.Removal.{toldEdgeRemoved, takenOut, gone, lastMoved}
+use Rattle.removal.specs.Removal.{toldEdgeRemoved, takenOut, lastMoved}
 
 -- edge e of m can be taken out of the columns
 pub record Removable (heads registers links ends n m e : ℕ) : Type 0 where
   pub within : Within heads links ends n m e
   pub registers-hold : m ≤ registers
 
--- links at s and t lead to it, and few rows were read to find them
-pub record Reached (heads registers links ends : List ℕ) (n m e : ℕ) (s t : Spot) (rows : ℕ) : Type 0 where
-  pub removable : Removable (length heads) (length registers) (length links) (length ends) n m e
-  pub places : Places (length heads) (length links) s t
-  pub outgoing-leads : linkIn heads links 0 s ≡ e
-  pub incoming-leads : linkIn heads links 1 t ≡ e
-  pub few : rows ≤ m + m
-
--- it is bypassed, and is not the last row
+-- it is bypassed: the links at s and t, found after `rows` rows, led to it; and it is not the last row
 pub record Gap (heads registers links ends n m e : ℕ) (s t : Spot) (rows : ℕ) : Type 0 where
   pub removable : Removable heads registers links ends n m e
   pub places : Places heads links s t
@@ -44,12 +34,6 @@ TakesOut heads registers links ends n m e r =
     (weights : List ℤ)
     → out (toldEdgeRemoved r) (net weights (now (heads .exit)) (now (registers .exit)) (now (links .exit)) (now (ends .exit)) n (now (m .exit)))
     ≡ takenOut (net weights (now (heads .entry)) (now (registers .entry)) (now (links .entry)) (now (ends .entry)) n (now (m .entry))) e
-
-abbrev pub Bypasses : (heads registers links ends : Lent ℕ) → ℕ → Count → ℕ → Spot → Spot → ℕ → EdgeRemoved → Type 0
-Bypasses heads registers links ends n m e s t rows r =
-    (weights : List ℤ)
-    → out (toldEdgeRemoved r) (net weights (now (heads .exit)) (now (registers .exit)) (now (links .exit)) (now (ends .exit)) n (now (m .exit)))
-    ≡ gone (net weights (now (heads .entry)) (now (registers .entry)) (now (links .entry)) (now (ends .entry)) n (now (m .entry))) e (now (m .entry) - 1) s t rows
 
 abbrev pub FillsGap : (heads registers links ends : Lent ℕ) → ℕ → Count → ℕ → Spot → Spot → ℕ → EdgeRemoved → Type 0
 FillsGap heads registers links ends n m e s t rows r =

@@ -1,12 +1,12 @@
 // What the removal is made of: an edge bypassed, and the gap filled by the last row.
 ghost use lib.ListN.{length};
-ghost use Rattle.removal.specs.Parts.{Removable, Reached, Gap, TakesOut, Bypasses, FillsGap};
+ghost use Rattle.removal.specs.Parts.{Removable, Gap, TakesOut, FillsGap};
 use crate::EdgeRemoved;
 use index::EdgeIndex;
 use index::Refusal;
 use links::Located;
+use links::parts::change_edge_links;
 use links::parts::lead;
-use links::parts::locate;
 use links::parts::move_last;
 use lists::Spot;
 use tables::Edge;
@@ -15,7 +15,7 @@ use tables::parts::INCOMING;
 use tables::parts::OUTGOING;
 use tables::parts::write_edge;
 
-// Edge e is taken out; where a search fails, all is as it was.
+// Edge e is bypassed, and goes, if it is the last row; else the last row takes its place. Where a search fails, all is as it was.
 pub fn take_out(
     heads: &mut [u32],
     registers: &mut [u32],
@@ -29,40 +29,22 @@ pub fn take_out(
     ensures { λ r. ⌜ TakesOut heads registers links ends n m (e .0) r ⌝ }
 {
     let edges = *m;
-    match locate(heads, links, ends, n, edges, e) {
-        Located::Lost => EdgeRemoved::Refused(Refusal::Broken),
-        Located::At(s, t, rows) => bypass(heads, registers, links, ends, n, m, e, s, t, rows),
-    }
-}
-
-// Edge e, which s and t lead to, is bypassed; it goes, if it is the last row, else the last row takes its place.
-pub fn bypass(
-    heads: &mut [u32],
-    registers: &mut [u32],
-    links: &mut [u32],
-    ends: &mut [u32],
-    n: u32,
-    m: &mut u32,
-    e: EdgeIndex,
-    s: Spot,
-    t: Spot,
-    rows: u32,
-) -> EdgeRemoved
-    requires { ⌜ Reached (now heads) (now registers) (now links) (now ends) n (now m) (e .0) s t rows ⌝ }
-    ensures { λ r. ⌜ Bypasses heads registers links ends n m (e .0) s t rows r ⌝ }
-{
-    let last = *m - 1;
+    let last = edges - 1;
     let cell = EDGE_CELLS * e.index();
     let v = links[cell + OUTGOING];
     let w = links[cell + INCOMING];
-    lead(heads, links, s, t, v, w);
-    if e.0 == last {
-        let weight = registers[e.index()];
-        write_edge(registers, links, ends, e.index(), Edge::vacant());
-        *m = last;
-        return EdgeRemoved::Edge(weight, EdgeIndex::END, rows);
+    match change_edge_links(heads, links, ends, n, edges, e, v, w) {
+        Located::Lost => EdgeRemoved::Refused(Refusal::Broken),
+        Located::At(s, t, rows) => {
+            if e.0 == last {
+                let weight = registers[e.index()];
+                write_edge(registers, links, ends, e.index(), Edge::vacant());
+                *m = last;
+                return EdgeRemoved::Edge(weight, EdgeIndex::END, rows);
+            }
+            fill_gap(heads, registers, links, ends, n, m, e, s, t, rows)
+        }
     }
-    fill_gap(heads, registers, links, ends, n, m, e, s, t, rows)
 }
 
 // The last row takes the place of e, which is bypassed. It is sought under its old number; where it is lost, s and t lead to e again.
@@ -83,14 +65,14 @@ pub fn fill_gap(
 {
     let edges = *m;
     let last = EdgeIndex(edges - 1);
-    match locate(heads, links, ends, n, edges, last) {
+    // The weight is read before the walks, which it need not wait for.
+    let weight = registers[e.index()];
+    match change_edge_links(heads, links, ends, n, edges, last, e.0, e.0) {
         Located::Lost => {
             lead(heads, links, s, t, e.0, e.0);
             EdgeRemoved::Refused(Refusal::Broken)
         }
-        Located::At(u, v, more) => {
-            let weight = registers[e.index()];
-            lead(heads, links, u, v, e.0, e.0);
+        Located::At(_, _, more) => {
             move_last(registers, links, ends, e, last);
             *m = last.0;
             EdgeRemoved::Edge(weight, last, rows + more)

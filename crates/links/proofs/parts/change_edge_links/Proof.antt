@@ -1,0 +1,153 @@
+-- `change_edge_links` meets its contract. Assumes nothing.
+use mathlib.Core.Path.{refl, ap, _∙_}
+use native.Mathlib.Omega.{arith}
+use Rattle.lists.specs.declared.Spot.the-variants.{Head}
+use Rattle.links.proofs.Hits.{place-of, place-kept}
+use Rattle.links.proofs.Walks.{incoming-as-before, no-source, no-target, not-met, outgoing-hit, incoming-hit, both-met, second-not-met, heads-again, links-again}
+use borrow.Author.Needs.{needs}
+use Rattle.links.proofs.parts.change_edge_links.Statement.{statement}
+use Rattle.links.proofs.parts.change_edge_links.Tie as tie
+
+returns : tie.Need-returns
+returns c =
+    record { answer-is = no-source _ _ _ _ _ _ _ (c .before .before .before .before .index .ensures) (c .if1 .taken); heads-are = refl; links-are = refl }
+
+returns-2 : tie.Need-returns-2
+returns-2 c =
+    record { answer-is = no-target _ _ _ _ _ _ _ (c .before .before .before .before .before .before .index .ensures) (c .if2 .taken); heads-are = refl; links-are = refl }
+
+change-link-requires : tie.Need-change-link-requires
+change-link-requires c κs =
+    let p = c .before .before .before .before .before .before .before .before .before .before .before .before .before .before .before .before .pre in
+    record {
+      direction = omega arith;
+      head = omega (arith, c .before .before .before .before .before .before .before .before .if1 .left, p .heads-hold);
+      first-is = rw (c .before .before .before .before .before .index2 .ensures);
+      links-hold = p .links-hold;
+    }
+
+change-link-requires-2 : tie.Need-change-link-requires-2
+change-link-requires-2 c κs =
+    let p = c .before .before .before .before .before .before .before .before .before .before .before .before .before .before .before .before .before .before .before .before .before .before .before .before .before .before .pre in
+    let f = c .before .before .before .before .before .before .before .before .before .change-link .ensures in
+    let k = c .before .before .before .before .before .before .before .before .before .change-link .kept in
+    let z = c .before .before .before .s .given .1 in
+    let as-before = incoming-as-before _ _ _ _ _ _ (rw z at (f .heads-are)) (rw z at (f .links-are)) in
+    record {
+      direction = omega arith;
+      head = omega (arith, k .0, c .before .before .before .before .before .before .before .before .before .before .before .before .before .before .before .before .if2 .left, p .heads-hold);
+      first-is = rw (← c .before .before .before .before .before .before .before .before .before .before .before .before .before .index3 .ensures) (ap (λ lk. lk (Head (c .before .before .before .before .before .before .before .before .before .before .before .before .before .index3 .result))) as-before);
+      links-hold = omega (arith, k .1 .0, p .links-hold);
+    }
+
+relink-requires : tie.Need-relink-requires
+relink-requires c κs =
+    let p = c .before .before .before .before .before .before .before .before .before .before .before .before .before .before .before .before .before .before .before .before .before .before .before .before .before .before .before .before .before .before .before .before .before .before .before .pre in
+    let k = c .before .before .before .before .before .before .before .before .before .before .before .before .before .before .before .before .before .before .change-link .kept in
+    let l = c .before .before .before .before .before .before .before .before .change-link2 .kept in
+    let h = outgoing-hit _ _ (c .before .before .before .before .before .before .before .before .before .before .before .before .before .before .before .before .before .before .before .before .before .before .before .before .before .before .before .before .before .before .before .before .before .before .before .args .ends .now) _ _ _ _ (c .before .before .before .before .before .before .before .before .before .before .before .before .before .before .before .before .before .before .before .before .before .before .before .before .before .before .before .before .before .before .before .index .ensures) (c .before .before .before .before .before .before .before .before .before .before .before .before .before .before .before .before .before .before .before .before .before .before .before .before .before .before .before .if1 .left) _ _ _ (c .before .before .before .before .before .before .before .before .before .before .before .before .before .before .before .before .before .before .change-link .ensures .answer-is) (c .before .before .before .before .before .before .before .before .before .before .before .before .s .given .1) in
+    place-kept 0 _ (l .0 ∙ k .0) (l .1 .0 ∙ k .1 .0) (place-of _ _ _ _ 0 (omega arith) (p .heads-hold) (p .links-hold) _ (h .spot))
+
+add-t45 : tie.Need-add-t45
+add-t45 c =
+    let E = c .before .before .before .before .before .before .before .before .before .before .before .before .before .before .before .before .before .before .before .before .before .before .before .before .before .before .before .before .before .before .before .before .before .before .args .ends .now in
+    let x = c .before .before .before .before .before .before .before .before .before .before .before .before .before .before .before .before .before .before .before .before .before .before .before .before .before .before .before .before .before .before .index .ensures in
+    let a = c .before .before .before .before .before .before .before .before .before .before .before .before .before .before .before .before .before .before .before .before .before .before .before .before .before .before .if1 .left in
+    let b = c .before .before .before .before .before .before .before .before .before .before .before .before .before .before .before .before .before .before .before .before .before .before .before .before .if2 .left in
+    let f = c .before .before .before .before .before .before .before .before .before .before .before .before .before .before .before .before .before .change-link .ensures in
+    let g = c .before .before .before .before .before .before .before .change-link2 .ensures in
+    let y = c .before .before .before .before .before .before .before .before .before .before .before .s .given .1 in
+    let z = c .before .t .given .1 in
+    let hs = rw y at (f .heads-are) in
+    let ls = rw y at (f .links-are) in
+    let h = outgoing-hit _ _ E _ _ _ _ x a _ _ _ (f .answer-is) y in
+    let i = incoming-hit _ _ E _ _ _ _ x a _ _ _ (f .answer-is) y _ _ _ hs ls b _ (g .answer-is) _ _ z in
+    record { fits = omega (arith, h .few, i .few, c .before .before .before .before .before .before .before .before .before .before .before .before .before .before .before .before .before .before .before .before .before .before .before .before .before .before .before .before .before .before .before .before .before .before .pre .edges-most) }
+
+returns-3 : tie.Need-returns-3
+returns-3 c =
+    let f = c .before .before .before .before .before .before .change-link .ensures in
+    let z = c .enum-told .given .1 in
+    record {
+      answer-is = not-met _ _ _ _ _ _ _ (c .before .before .before .before .before .before .before .before .before .before .before .before .before .before .before .before .before .before .before .index .ensures) (c .before .before .before .before .before .before .before .before .before .before .before .before .before .before .before .if1 .left) _ (f .answer-is) z;
+      heads-are = rw z at (f .heads-are);
+      links-are = rw z at (f .links-are);
+    }
+
+returns-4 : tie.Need-returns-4
+returns-4 c =
+    let E = c .before .before .before .before .before .before .before .before .before .before .before .before .before .before .before .before .before .before .before .before .before .before .before .before .before .before .before .before .before .before .before .before .before .before .before .before .before .before .before .before .args .ends .now in
+    let x = c .before .before .before .before .before .before .before .before .before .before .before .before .before .before .before .before .before .before .before .before .before .before .before .before .before .before .before .before .before .before .before .before .before .before .before .before .index .ensures in
+    let a = c .before .before .before .before .before .before .before .before .before .before .before .before .before .before .before .before .before .before .before .before .before .before .before .before .before .before .before .before .before .before .before .before .if1 .left in
+    let b = c .before .before .before .before .before .before .before .before .before .before .before .before .before .before .before .before .before .before .before .before .before .before .before .before .before .before .before .before .before .before .if2 .left in
+    let f = c .before .before .before .before .before .before .before .before .before .before .before .before .before .before .before .before .before .before .before .before .before .before .before .change-link .ensures in
+    let g = c .before .before .before .before .before .before .before .before .before .before .before .before .before .change-link2 .ensures in
+    let h = c .before .before .before .before .relink .ensures in
+    let y = c .before .before .before .before .before .before .before .before .before .before .before .before .before .before .before .before .before .s .given .1 in
+    let z = c .before .before .before .before .before .before .before .enum-told2 .given .1 in
+    let hs = rw y at (f .heads-are) in
+    let ls = rw y at (f .links-are) in
+    record {
+      answer-is = second-not-met _ _ _ _ _ _ _ x a _ _ _ (f .answer-is) y _ _ _ hs ls b _ (g .answer-is) z;
+      heads-are = heads-again _ _ E _ _ _ _ x a _ _ _ (f .answer-is) y _ _ _ hs ls _ (rw (rw z at (g .heads-are)) at (h .0));
+      links-are = links-again _ _ E _ _ _ _ x a _ _ _ (f .answer-is) y _ _ _ hs ls _ (rw (rw z at (g .links-are)) at (h .1));
+    }
+
+returns-5 : tie.Need-returns-5
+returns-5 c =
+    let x = c .before .before .before .before .before .before .before .before .before .before .before .before .before .before .before .before .before .before .before .before .before .before .before .before .before .before .before .before .before .before .index .ensures in
+    let a = c .before .before .before .before .before .before .before .before .before .before .before .before .before .before .before .before .before .before .before .before .before .before .before .before .before .before .if1 .left in
+    let b = c .before .before .before .before .before .before .before .before .before .before .before .before .before .before .before .before .before .before .before .before .before .before .before .before .if2 .left in
+    let f = c .before .before .before .before .before .before .before .before .before .before .before .before .before .before .before .before .before .change-link .ensures in
+    let g = c .before .before .before .before .before .before .before .change-link2 .ensures in
+    let y = c .before .before .before .before .before .before .before .before .before .before .before .s .given .1 in
+    let z = c .before .t .given .1 in
+    let hs = rw y at (f .heads-are) in
+    let ls = rw y at (f .links-are) in
+    record {
+      answer-is = both-met _ _ _ _ _ _ _ x a _ _ _ (f .answer-is) y _ _ _ hs ls b _ (g .answer-is) _ _ z;
+      heads-are = rw hs at (rw z at (g .heads-are));
+      links-are = rw ls at (rw z at (g .links-are));
+    }
+
+pub change-edge-links-spec : {M : Type 1} → statement M
+change-edge-links-spec =
+    tie.close
+    (tie.spec
+    (λ c κs. search needs)
+    (λ c. search needs)
+    (λ c. search needs)
+    (λ c. search needs)
+    (λ c. search needs)
+    (λ c. search needs)
+    (λ c. search needs)
+    (λ c. search needs)
+    returns
+    returns-2
+    (λ c κs. search needs)
+    (λ c. search needs)
+    (λ c. search needs)
+    (λ c. search needs)
+    (λ c. search needs)
+    (λ c κs. search needs)
+    (λ c. search needs)
+    (λ c. search needs)
+    (λ c. search needs)
+    (λ c. search needs)
+    change-link-requires
+    (λ c. search needs)
+    (λ c. search needs)
+    change-link-requires-2
+    (λ c. search needs)
+    relink-requires
+    (λ c. search needs)
+    add-t45
+    (λ c. search needs)
+    (λ c. search needs)
+    returns-3
+    (λ c. search needs)
+    (λ c. search needs)
+    returns-4
+    (λ c. search needs)
+    (λ c. search needs)
+    returns-5)
