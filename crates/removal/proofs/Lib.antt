@@ -1,6 +1,5 @@
 pub mod Reaches
 pub mod Ways
-pub mod Cases
 pub mod Members
 pub mod Spots
 pub mod Directions
