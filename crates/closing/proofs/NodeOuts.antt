@@ -148,12 +148,12 @@ module _ (g : Net) (a : ℕ) (items : List ℕ) (f : fits g ≡ true) (la : a < 
   unfolding removeNode
   unsound-6 n =
       rw (f, lt-ltb a (g .n) la)
-      (tested (λ o. o .answer .number ≡ 6) (accepted (checked g)) _ _ refl (λ c.
+      (tested (λ (o : Closed). o .answer .number ≡ 6) (accepted (checked g)) _ _ refl (λ c.
       let r = accepts (checked g) c in
       absurd (n (lists g, accepted-sound g (r .0) (r .1) .1))))
 
   pub six-unsound : removeNode g a items .answer .number ≡ 6 → HasLists g → ⊥
   unfolding removeNode closedIfRoom
   six-unsound h (ls, S) =
-      tested (λ o. o .answer .number ≡ 6 → ⊥) (leb (length (around g Weight a)) (length items)) _ _ (λ z. omega arith) (λ r z. omega arith)
+      tested (λ (o : Closed). o .answer .number ≡ 6 → ⊥) (leb (length (around g Weight a)) (length items)) _ _ (λ z. omega arith) (λ r z. omega arith)
       (rw (f, lt-ltb a (g .n) la, sound-accepted g ls f S) at h)

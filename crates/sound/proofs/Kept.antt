@@ -1,6 +1,7 @@
 -- A sound network stays sound, and these are its lists: `node-set`, `edge-set`, `node-added`, `edge-added`, `updated`, `edges-cleared`,
 -- `all-cleared`; whatever the call answers: `node-kept`, `edge-kept`, `update-kept`, `clear-edges-kept`, `clear-kept`. Rows at or past the counts,
 -- and weights, have no part in it: `in-use`. Assumes nothing.
+use Prim.{Unit}
 use Prim.Native.Nat.{ℕ, _+_, _*_, _≤_, _<_}
 use mathlib.Core.Path.{_≡_, refl, sym, _∙_, subst}
 use mathlib.Core.Logic.{_⊎_, inl, inr, ⊎-elim}
@@ -78,15 +79,17 @@ other-weights g weights registers =
 pub node-set : (g : Net) (ls : ℕ → ℕ → List ℕ) (a : ℕ) (w : ℤ) → Sound g ls → Sound (setNodeWeight g a w .after) ls
 unfolding setNodeWeight
 node-set g ls a w S =
-    tested (λ o. Sound (o .after) ls) (fits g) _ _ S (λ f.
-    tested (λ o. Sound (o .after) ls) (ltb a (g .n)) _ _ S (λ l.
+    let P : Out (Unit {0}) Net → Type 0 = λ o. Sound (o .after) ls in
+    tested P (fits g) _ _ S (λ f.
+    tested P (ltb a (g .n)) _ _ S (λ l.
     in-use g (withNodes g (set (g .weights) a w) (g .heads)) ls f (other-weights g (set (g .weights) a w) (g .registers)) S))
 
 pub edge-set : (g : Net) (ls : ℕ → ℕ → List ℕ) (e w : ℕ) → Sound g ls → Sound (setEdgeWeight g e w .after) ls
 unfolding setEdgeWeight
 edge-set g ls e w S =
-    tested (λ o. Sound (o .after) ls) (fits g) _ _ S (λ f.
-    tested (λ o. Sound (o .after) ls) (ltb e (g .m)) _ _ S (λ l.
+    let P : Out (Unit {0}) Net → Type 0 = λ o. Sound (o .after) ls in
+    tested P (fits g) _ _ S (λ f.
+    tested P (ltb e (g .m)) _ _ S (λ l.
     in-use g (withEdges g (set (g .registers) e w) (g .links) (g .ends)) ls f (other-weights g (g .weights) (set (g .registers) e w)) S))
 
 -- the network with row n a bare node
@@ -211,16 +214,18 @@ HasLists g = (ls : ℕ → ℕ → List ℕ) × Sound g ls
 pub node-kept : (g : Net) (ls : ℕ → ℕ → List ℕ) (w : ℤ) → Sound g ls → HasLists (addNode g w .after)
 unfolding addNode withNode
 node-kept g ls w S =
-    tested (λ o. HasLists (o .after)) (fits g) _ _ (ls, S) (λ f.
-    tested (λ o. HasLists (o .after)) (ltb (g .n) (length (g .weights))) _ _ (ls, S) (λ l.
+    let P : Out ℕ Net → Type 0 = λ o. HasLists (o .after) in
+    tested P (fits g) _ _ (ls, S) (λ f.
+    tested P (ltb (g .n) (length (g .weights))) _ _ (ls, S) (λ l.
     (nodeMore (g .n) ls, noded-sound g ls w f (ltb-true (g .n) (length (g .weights)) l) S)))
 
 pub edge-kept : (g : Net) (ls : ℕ → ℕ → List ℕ) (a b w : ℕ) → Sound g ls → HasLists (addEdge g a b w .after)
 unfolding addEdge linked withEdge
 edge-kept g ls a b w S =
-    tested (λ o. HasLists (o .after)) (fits g) _ _ (ls, S) (λ f.
-    tested (λ o. HasLists (o .after)) (ltb (g .m) (length (g .registers))) _ _ (ls, S) (λ l.
-    tested (λ o. HasLists (o .after)) (ltb a (g .n) && ltb b (g .n)) _ _ (ls, S) (λ e.
+    let P : Out ℕ Net → Type 0 = λ o. HasLists (o .after) in
+    tested P (fits g) _ _ (ls, S) (λ f.
+    tested P (ltb (g .m) (length (g .registers))) _ _ (ls, S) (λ l.
+    tested P (ltb a (g .n) && ltb b (g .n)) _ _ (ls, S) (λ e.
     let i = both (ltb a (g .n)) (ltb b (g .n)) e in (
       edgeMore (g .m) a b ls,
       edged-sound g ls a b w f (ltb-true (g .m) (length (g .registers)) l) (ltb-true a (g .n) (i .0)) (ltb-true b (g .n) (i .1)) S,
