@@ -1,0 +1,74 @@
+-- `loop_add_edges` meets its contract: after i turns it stands where the first i calls lead. Assumes nothing.
+use Prim.Native.Nat.{_-_, _/_, _≤_}
+use mathlib.Core.Path.{_≡_, refl, _∙_}
+use native.Mathlib.Omega.{arith}
+use denote.Ref.{now}
+use lib.ListN.{length}
+use Rattle.tables.specs.Net.{net}
+use Rattle.loops.specs.Loops.{sums, calls, addsEdge}
+use Rattle.loops.proofs.Laws.{calls-more}
+use borrow.Author.Needs.{needs}
+use Rattle.loops.proofs.loop_add_edges.Statement.{statement}
+use Rattle.loops.proofs.loop_add_edges.Tie as tie
+
+abbrev Inv-loop : tie.InvT-loop
+Inv-loop weights heads₀ registers₀ links₀ ends₀ n m₀ edges sum₀ i₀ count heads registers links ends m sum i =
+    (i ≤ length edges / 3) × (count ≡ length edges / 3)
+    × (sums sum (net weights heads registers links ends n m) ≡ calls (addsEdge edges) (net weights heads₀ registers₀ links₀ ends₀ n m₀) i)
+    × (length heads ≡ length heads₀) × (length registers ≡ length registers₀) × (length links ≡ length links₀) × (length ends ≡ length ends₀)
+
+abbrev μ-loop : tie.MeasureT-loop
+μ-loop weights heads₀ registers₀ links₀ ends₀ n m₀ edges sum₀ i₀ count heads registers links ends m sum i = length edges / 3 - i
+
+loop-holds : tie.Need-loop-holds Inv-loop μ-loop
+unfolding calls
+loop-holds c = (omega arith, refl, refl, refl, refl, refl, refl)
+
+loop-again : tie.Need-loop-again Inv-loop μ-loop
+loop-again c =
+    let p = c .before .before .before .before .before .before .before .before .before .before in
+    let l = c .before .before .before .before .before .before .before .before .before .before .before .before .before .before .before .before .before .before .before .before .loop in (
+      omega (arith, c .before .before .before .before .before .before .before .before .before .before .before .before .before .before .before .before .before .before .before .loop-test .taken, l .inv .1),
+      l .inv .1,
+      calls-more _ _ _ (l .inv .2) (p .add-edge .ensures) (c .before .edge-adds .ensures) (c .wrapping-add-u64 .ensures),
+      p .add-edge .kept .1 .0 ∙ l .inv .3,
+      p .add-edge .kept .1 .1 .0 ∙ l .inv .4,
+      p .add-edge .kept .1 .1 .1 .0 ∙ l .inv .5,
+      p .add-edge .kept .1 .1 .1 .1 .0 ∙ l .inv .6,
+    )
+
+returns : tie.Need-returns Inv-loop μ-loop
+returns c =
+    let l = c .before .loop in
+    let e : l .i ≡ length (now (c .before .before .before .before .before .before .before .args .edges)) / 3 = omega (arith, c .loop-test .left) in
+    rw e at (l .inv .2)
+
+pub loop-add-edges-spec : {M : Type 1} → statement M
+loop-add-edges-spec =
+    tie.close
+    (tie.spec
+    Inv-loop
+    μ-loop
+    loop-holds
+    (λ c. search needs)
+    (λ c. search needs)
+    (λ c. search needs)
+    (λ c. search needs)
+    (λ c. search needs)
+    (λ c. search needs)
+    (λ c. search needs)
+    (λ c. search needs)
+    (λ c. search needs)
+    (λ c. search needs)
+    (λ c. search needs)
+    (λ c κs. search needs)
+    (λ c κs. search needs)
+    (λ c κs. search needs)
+    (λ c. search needs)
+    (λ c. search needs)
+    loop-again
+    (λ c. search needs)
+    (λ c. search needs)
+    (λ c. search needs)
+    (λ c. search needs)
+    returns)
