@@ -41,8 +41,9 @@ use Rattle.removal.specs.Removal.{Gone, onPlace, placeOf, bypassed, lastMoved, 
 use Rattle.closing.specs.Closing.{closedIfRoom, removeNode}
 use Rattle.layout.specs.Layout.{version, headBytes, imageLength, marked, versionIn, nodesIn, edgesIn}
 use Rattle.imagerows.specs.Image.{imageOf, loaded}
-use Rattle.image.specs.Calls.{imageWrite, settled, readOne, imageRead, vacated}
-use Rattle.image.proofs.Vacated.{loaded-vacated}
+use Rattle.loading.specs.Loading.{vacated, settled, readOne}
+use Rattle.loading.proofs.Vacated.{loaded-vacated}
+use Rattle.image.specs.Calls.{imageWrite, imageRead}
 use Rattle.text.specs.Lines.{lines}
 use Rattle.commands.specs.Commands.{Replied}
 use Rattle.dispatch.specs.Step.{State, among}

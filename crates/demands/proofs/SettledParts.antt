@@ -22,7 +22,7 @@ use Rattle.dropping.proofs as dropping
 use Rattle.closing.proofs as closing
 use Rattle.layout.proofs as layout
 use Rattle.imagerows.proofs as imagerows
-use Rattle.image.proofs as image
+use Rattle.loading.proofs as loading
 use Rattle.demands.specs.Settles.{Settles, SettlesAll}
 use Rattle.demands.proofs.Alike.{alike, answers-alike, told-alike, allColumns}
 
@@ -189,8 +189,8 @@ imagerows-write κs given x y p q = ap (λ l. (_, (_, (_, (_, (_, (_, (_, (_, (l
 pub imagerows-load : Settles imagerows.parts.load.ended imagerows.parts.load.Reads.Post
 imagerows-load κs given x y p q = ap (λ g. (_, (g .weights, (g .heads, (g .registers, (g .links, (g .ends, _))))))) (alike p q)
 
-pub image-is-sound : Settles image.parts.is_sound.ended image.parts.is_sound.Reads.Post
-image-is-sound κs given x y p q = answers-alike p q
+pub loading-is-sound : Settles loading.parts.is_sound.ended loading.parts.is_sound.Reads.Post
+loading-is-sound κs given x y p q = answers-alike p q
 
-pub image-read-one : Settles image.parts.read_one.ended image.parts.read_one.Reads.Post
-image-read-one κs given x y p q = ap (λ o. (o .0, allColumns (o .1) _)) (told-alike toldChange change-told-once p q)
+pub loading-read-one : Settles loading.parts.read_one.ended loading.parts.read_one.Reads.Post
+loading-read-one κs given x y p q = ap (λ o. (o .0, allColumns (o .1) _)) (told-alike toldChange change-told-once p q)

@@ -26,7 +26,8 @@ use Rattle.walker.specs.Sums.{sumAround}
 use Rattle.sound.specs.Check.{checked, toldChecked}
 use Rattle.removal.specs.Removal.{removeEdge}
 use Rattle.closing.specs.Closing.{removeNode}
-use Rattle.image.specs.Calls.{imageWrite, imageRead, vacated}
+use Rattle.loading.specs.Loading.{vacated}
+use Rattle.image.specs.Calls.{imageWrite, imageRead}
 use Rattle.text.specs.Lines.{lines}
 use Rattle.script.specs.Script.{Ran, ran, textOf, answers, Each, begun, run}
 

@@ -14,7 +14,7 @@ use Rattle.tables.specs.Rows.{filled, vacantNodes, vacantEdges}
 use Rattle.tables.proofs.Laws.{fit-says}
 use Rattle.imagerows.specs.Image.{loaded}
 use Rattle.imagerows.proofs.Loads.{loaded-fits, loaded-nodes, loaded-edges}
-use Rattle.image.specs.Calls.{vacated}
+use Rattle.loading.specs.Loading.{vacated}
 
 -- tables that are vacant throughout, by the rows that they have
 abbrev vacant : ℕ → ℕ → Net

@@ -4,10 +4,10 @@ use native.Mathlib.Omega.{arith}
 use borrow.Author.Needs.{needs}
 use denote.Ref.{now}
 use lib.ListN.{length}
-use Rattle.image.specs.Calls.{readOne}
-use Rattle.image.proofs.Served.{read-settled}
-use Rattle.image.proofs.parts.read_one.Statement.{statement}
-use Rattle.image.proofs.parts.read_one.Tie as tie
+use Rattle.loading.specs.Loading.{readOne}
+use Rattle.loading.proofs.Served.{read-settled}
+use Rattle.loading.proofs.parts.read_one.Statement.{statement}
+use Rattle.loading.proofs.parts.read_one.Tie as tie
 
 returns : tie.Need-returns
 unfolding readOne

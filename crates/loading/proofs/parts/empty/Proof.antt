@@ -1,8 +1,8 @@
 -- `parts::empty` meets its contract: each column is what its part leaves. Assumes nothing.
 use borrow.Author.Needs.{needs}
-use Rattle.image.proofs.Served.{vacated-is}
-use Rattle.image.proofs.parts.empty.Statement.{statement}
-use Rattle.image.proofs.parts.empty.Tie as tie
+use Rattle.loading.proofs.Served.{vacated-is}
+use Rattle.loading.proofs.parts.empty.Statement.{statement}
+use Rattle.loading.proofs.parts.empty.Tie as tie
 
 returns : tie.Need-returns
 returns c =

@@ -1,8 +1,7 @@
 -- `parts::is_sound` meets its contract, by the answer of the check. Assumes nothing.
 use borrow.Author.Needs.{needs}
-use Rattle.sound.specs.Check.{isSound}
-use Rattle.image.proofs.parts.is_sound.Statement.{statement}
-use Rattle.image.proofs.parts.is_sound.Tie as tie
+use Rattle.loading.proofs.parts.is_sound.Statement.{statement}
+use Rattle.loading.proofs.parts.is_sound.Tie as tie
 
 returns : tie.Need-returns
 returns c = rw (← c .before .before .check .ensures, c .enum-told .given .1)
