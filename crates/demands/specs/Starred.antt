@@ -16,7 +16,8 @@ use Rattle.walks.specs.Legs.{Tables3, tables3}
 use Rattle.text.specs.Bytes.{newline}
 use Rattle.commands.specs.Commands.{Replied}
 use Rattle.dispatch.specs.Step.{State, state}
-use Rattle.script.specs.Script.{lineAnswer, textOf}
+use Rattle.obeying.specs.Line.{lineAnswer}
+use Rattle.script.specs.Script.{textOf}
 
 -- the bytes of a text
 abbrev pub bytes : String → List ℕ

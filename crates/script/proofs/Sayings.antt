@@ -38,11 +38,12 @@ use Rattle.commands.proofs.Kept.{Sane, sought-by}
 use Rattle.dispatch.specs.declared.Numbers.{Numbers}
 use Rattle.dispatch.specs.Step.{State, among, step}
 use Rattle.dispatch.proofs.Keeps.{step-ways}
-use Rattle.script.specs.Script.{lineAnswer, answers, Each, begun}
-use Rattle.script.proofs.Reading.{line-so}
-use Rattle.script.proofs.Listing.{reply-so}
+use Rattle.obeying.specs.Line.{lineAnswer}
+use Rattle.script.specs.Script.{answers, Each, begun}
+use Rattle.obeying.proofs.Reading.{line-so}
+use Rattle.obeying.proofs.Listing.{reply-so}
 use Rattle.script.proofs.Throughout.{begun-sane, line-keeps, line-6, each-answer}
-use Rattle.script.proofs.Sizes.{line-sizes}
+use Rattle.obeying.proofs.Sizes.{line-sizes}
 
 -- neither 1 nor 7; 6 is for another law
 abbrev Says : ℕ → Type 0

@@ -3,9 +3,9 @@ use borrow.Author.Needs.{needs}
 use mathlib.Core.Path.{sym, _∙_}
 use native.Mathlib.Omega.{arith}
 use Rattle.text.proofs.Fields.{nothing-there, first-there}
-use Rattle.script.proofs.Reading.{empty-line, unknown-line, bad-line, good-line}
-use Rattle.script.proofs.parts.answer_line.Statement.{statement}
-use Rattle.script.proofs.parts.answer_line.Tie as tie
+use Rattle.obeying.proofs.Reading.{empty-line, unknown-line, bad-line, good-line}
+use Rattle.obeying.proofs.parts.answer_line.Statement.{statement}
+use Rattle.obeying.proofs.parts.answer_line.Tie as tie
 
 returns : tie.Need-returns
 returns c = rw (nothing-there (c .before .before .before .before .before .before .before .before .before .before .pre) (c .before .if1 .taken)) (empty-line _ (c .refused .ensures))

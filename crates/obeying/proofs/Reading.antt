@@ -21,9 +21,9 @@ use Rattle.commands.specs.Commands.{Replied, replied}
 use Rattle.dispatch.specs.declared.Numbers.{Numbers}
 use Rattle.dispatch.specs.Step.{State, noCommand, operandsOf, step}
 use Rattle.dispatch.proofs.Letters.{of-none}
-use Rattle.script.specs.declared.parts.Behind.the-variants as Behind·
-use Rattle.script.specs.Script.{weightAlone, upToThree, numbersBehind, obeyed, lineAnswer}
-use Rattle.script.specs.Parts.{behindOf}
+use Rattle.obeying.specs.declared.parts.Behind.the-variants as Behind·
+use Rattle.obeying.specs.Line.{weightAlone, upToThree, numbersBehind, obeyed, lineAnswer}
+use Rattle.obeying.specs.Parts.{behindOf}
 
 -- a weight, or up to three numbers, that were read or not
 bad-weight : (o : Option ℤ) → Weight·.Bad ≡ weightOf o → Behind·.Bad ≡ behindOf (weightAlone o)

@@ -30,8 +30,8 @@ use Rattle.commands.proofs.Ways.{tested}
 use Rattle.dispatch.specs.declared.Numbers.{Numbers}
 use Rattle.dispatch.specs.Step.{State, step}
 use Rattle.dispatch.proofs.Keeps.{step-ways}
-use Rattle.script.specs.Script.{lineAnswer}
-use Rattle.script.proofs.Reading.{line-so}
+use Rattle.obeying.specs.Line.{lineAnswer}
+use Rattle.obeying.proofs.Reading.{line-so}
 
 -- items at the front of a table
 table-holds : (items table : List ℕ) → length items ≤ length (onto items table)

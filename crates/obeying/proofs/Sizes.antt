@@ -38,9 +38,9 @@ use Rattle.commands.proofs.Kept.{filled-length, sought-by}
 use Rattle.dispatch.specs.declared.Numbers.{Numbers}
 use Rattle.dispatch.specs.Step.{State, step}
 use Rattle.dispatch.proofs.Keeps.{step-ways}
-use Rattle.script.specs.Script.{lineAnswer}
-use Rattle.script.proofs.Reading.{line-so}
-use Rattle.script.proofs.Listing.{walked-so}
+use Rattle.obeying.specs.Line.{lineAnswer}
+use Rattle.obeying.proofs.Reading.{line-so}
+use Rattle.obeying.proofs.Listing.{walked-so}
 
 -- how many edge rows a call leaves
 abbrev Leaves : {A : Type 0} → ℕ → Out A Net → Type 0

@@ -2,9 +2,9 @@
 use borrow.Author.Needs.{needs}
 use mir.Syntax.{w32}
 use mir.Facts.{toZ-ofZ}
-use Rattle.script.proofs.Reading.{weight-bad, weight-good, numbers-bad, numbers-good}
-use Rattle.script.proofs.parts.read_numbers.Statement.{statement}
-use Rattle.script.proofs.parts.read_numbers.Tie as tie
+use Rattle.obeying.proofs.Reading.{weight-bad, weight-good, numbers-bad, numbers-good}
+use Rattle.obeying.proofs.parts.read_numbers.Statement.{statement}
+use Rattle.obeying.proofs.parts.read_numbers.Tie as tie
 
 returns : tie.Need-returns
 returns c = weight-bad _ (c .before .before .before .if1 .taken) (c .before .before .read-weight-operand .ensures) (c .enum-told .given .1)
