@@ -23,7 +23,7 @@ use Rattle.lists.specs.declared.Spot.{Spot}
 use Rattle.lists.specs.declared.Pick.the-variants.{Every, To, NotTo, ToNot}
 use Rattle.lists.specs.declared.Item.the-variants.{Number, Far, Weight}
 use Rattle.lists.specs.Walk.{takenFrom, stopFrom, picks, broken, around}
-use Rattle.walks.specs.Legs.{roomFor}
+use Rattle.legs.specs.Legs.{roomFor}
 use Rattle.walks.specs.Walks.{walked, neighbors, edgeWeights, edgesBetween, edgesMut, edges}
 use Rattle.find.specs.declared.Sought.{Sought}
 use Rattle.find.specs.declared.Sought.the-variants.{Row, Missing, Endless}

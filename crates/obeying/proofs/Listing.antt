@@ -14,7 +14,7 @@ use Rattle.lists.specs.declared.Item.{Item}
 use Rattle.lists.specs.declared.Item.the-variants.{Number, Far, Weight}
 use Rattle.lists.specs.declared.Pick.the-variants.{Every, To, ToNot}
 use Rattle.lists.specs.Walk.{picks, broken, around}
-use Rattle.walks.specs.Legs.{Tables3, roomFor, giveThree}
+use Rattle.legs.specs.Legs.{Tables3, roomFor, giveThree}
 use Rattle.walks.specs.Walks.{walked, neighbors, edges, edgesMut, edgesBetween}
 use Rattle.find.specs.Find.{findEdge, updateEdge}
 use Rattle.walker.specs.Sums.{sumAround}

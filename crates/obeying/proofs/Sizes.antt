@@ -19,7 +19,7 @@ use Rattle.lists.specs.declared.Item.the-variants.{Number, Near, Far, Weight}
 use Rattle.lists.specs.declared.Pick.the-variants.{Every, To, NotTo, ToNot}
 use Rattle.lists.specs.declared.Spot.the-variants.{Head}
 use Rattle.lists.specs.Walk.{linkAt, gives, picks, around}
-use Rattle.walks.specs.Legs.{Tables3, roomFor, giveThree}
+use Rattle.legs.specs.Legs.{Tables3, roomFor, giveThree}
 use Rattle.walks.specs.Walks.{walked, neighbors, edges, edgesMut, edgesBetween}
 use Rattle.find.specs.Find.{sought, updateEdge}
 use Rattle.sound.specs.Sound.{lists}

@@ -19,7 +19,7 @@ use Rattle.lists.specs.declared.Pick.the-variants.{Every, To, NotTo, ToNot}
 use Rattle.lists.specs.declared.Spot.the-variants.{Head}
 use Rattle.lists.specs.Walk.{cell, linkAt, picked, rowsFrom, gives, picks, broken, around}
 use Rattle.lists.proofs.Gives.{walk-length}
-use Rattle.walks.specs.Legs.{Tables3, giveThree}
+use Rattle.legs.specs.Legs.{Tables3, giveThree}
 use Rattle.walks.specs.Walks.{walked, neighbors, edges, edgesMut, edgesBetween}
 use Rattle.find.specs.Find.{sought, findEdge, updateEdge}
 use Rattle.walker.specs.Sums.{present, sumAround}

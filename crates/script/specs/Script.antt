@@ -10,7 +10,7 @@ use Rattle.index.specs.Index.{END}
 use Rattle.index.specs.Refusals.{refusalNo}
 use Rattle.tables.specs.Net.{Net, net, nodeCells, edgeCells}
 use Rattle.tables.specs.Answers.{unless, onto}
-use Rattle.walks.specs.Legs.{tables3}
+use Rattle.legs.specs.Legs.{tables3}
 use Rattle.text.specs.Lines.{lines}
 use Rattle.reply.specs.Replies.{lineOf}
 use Rattle.commands.specs.Commands.{Replied}

@@ -7,7 +7,7 @@ use lib.IntN.{ℤ}
 use lib.ListN.{length}
 use borrow.Author.Needs.{needs}
 use Rattle.tables.specs.Net.{net}
-use Rattle.walks.specs.Legs.{tables3}
+use Rattle.legs.specs.Legs.{tables3}
 use Rattle.dispatch.specs.Step.{state}
 use Rattle.obeying.proofs.Listing.{listed-so}
 use Rattle.script.proofs.Turns.{Going, started, turned, stopped, ended}

@@ -1,7 +1,7 @@
 -- `parts::along` meets its contract. Assumes nothing.
 use borrow.Author.Needs.{needs}
-use Rattle.walks.proofs.parts.along.Statement.{statement}
-use Rattle.walks.proofs.parts.along.Tie as tie
+use Rattle.legs.proofs.parts.along.Statement.{statement}
+use Rattle.legs.proofs.parts.along.Tie as tie
 
 returns : tie.Need-returns
 returns c = rw (c .before .index .ensures)

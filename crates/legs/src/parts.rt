@@ -1,10 +1,10 @@
-// What the walks of this crate are made of: two legs, one after the other.
+// What a walk is made of: two legs, one after the other.
 ghost use mathlib.Core.Path.{_≡_};
 ghost use Prim.Native.Nat.{_<_};
 ghost use lib.ListN.{length};
 ghost use Rattle.tables.specs.Net.{nodeCell};
 ghost use Rattle.tables.specs.Answers.{out, toldItems, onto};
-ghost use Rattle.walks.specs.Legs.{legAt, legsGive, legsTold, edgesTold, tables3, settled, Legs, Ready};
+ghost use Rattle.legs.specs.Legs.{legAt, legsGive, legsTold, edgesTold, tables3, settled, Legs, Ready};
 use index::NodeIndex;
 use index::Refusal;
 use lists::Counted;

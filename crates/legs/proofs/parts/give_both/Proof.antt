@@ -4,9 +4,9 @@ use borrow.Author.Needs.{needs}
 use native.Mathlib.Omega.{arith}
 use denote.Ref.{now}
 use lib.Seq.{length-take-le}
-use Rattle.walks.proofs.Laws.{legs-given}
-use Rattle.walks.proofs.parts.give_both.Statement.{statement}
-use Rattle.walks.proofs.parts.give_both.Tie as tie
+use Rattle.legs.proofs.Laws.{legs-given}
+use Rattle.legs.proofs.parts.give_both.Statement.{statement}
+use Rattle.legs.proofs.parts.give_both.Tie as tie
 
 slice-aggregate-give : tie.Need-slice-aggregate-give
 slice-aggregate-give c = sym (length-take-le _ _ (omega (arith, c .before .before .before .before .before .pre)))

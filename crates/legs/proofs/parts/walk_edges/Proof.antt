@@ -3,10 +3,10 @@ use mathlib.Core.Path.{sym, _∙_}
 use borrow.Author.Needs.{needs}
 use borrow.Author.Tests.{le-leb, lt-leb}
 use denote.Ref.{now}
-use Rattle.walks.specs.Legs.{tables3}
-use Rattle.walks.proofs.Laws.{both-settled, broken-edges, short-edges, edges-given}
-use Rattle.walks.proofs.parts.walk_edges.Statement.{statement}
-use Rattle.walks.proofs.parts.walk_edges.Tie as tie
+use Rattle.legs.specs.Legs.{tables3}
+use Rattle.legs.proofs.Laws.{both-settled, broken-edges, short-edges, edges-given}
+use Rattle.legs.proofs.parts.walk_edges.Statement.{statement}
+use Rattle.legs.proofs.parts.walk_edges.Tie as tie
 
 returns : tie.Need-returns
 returns c =

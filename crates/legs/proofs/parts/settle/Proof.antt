@@ -3,9 +3,9 @@ use mathlib.Core.Path.{sym, _∙_}
 use borrow.Author.Needs.{needs}
 use native.Mathlib.Omega.{arith}
 use denote.Ref.{now}
-use Rattle.walks.proofs.Laws.{leg-broken, leg-counted, leg-few}
-use Rattle.walks.proofs.parts.settle.Statement.{statement}
-use Rattle.walks.proofs.parts.settle.Tie as tie
+use Rattle.legs.proofs.Laws.{leg-broken, leg-counted, leg-few}
+use Rattle.legs.proofs.parts.settle.Statement.{statement}
+use Rattle.legs.proofs.parts.settle.Tie as tie
 
 returns : tie.Need-returns
 returns c =

@@ -2,9 +2,9 @@
 use mathlib.Core.Path.{sym, _∙_}
 use borrow.Author.Needs.{needs}
 use denote.Ref.{now}
-use Rattle.walks.proofs.Laws.{both-settled, broken-told, short-told, both-told}
-use Rattle.walks.proofs.parts.walk.Statement.{statement}
-use Rattle.walks.proofs.parts.walk.Tie as tie
+use Rattle.legs.proofs.Laws.{both-settled, broken-told, short-told, both-told}
+use Rattle.legs.proofs.parts.walk.Statement.{statement}
+use Rattle.legs.proofs.parts.walk.Tie as tie
 
 returns : tie.Need-returns
 returns c =

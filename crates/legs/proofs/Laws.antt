@@ -1,8 +1,8 @@
 -- Two legs into one table, over plain lists. Assumes nothing.
 use Prim.Native.Nat.{ℕ, _+_, _-_, _≤_, _<_}
-use mathlib.Core.Path.{_≡_, refl, sym, ap, ap₂, _∙_}
-use mathlib.Core.Bool.{Bool, true, false, not, _&&_}
-use mathlib.Core.List.{List, [], _∷_, _++_, map, append-assoc}
+use mathlib.Core.Path.{_≡_, refl, ap, ap₂, _∙_}
+use mathlib.Core.Bool.{Bool, true, false, _&&_}
+use mathlib.Core.List.{List, _++_, map, append-assoc}
 use borrow.Author.Tests.{le-leb, lt-leb}
 use borrow.Rule.Slice.PartMut.{putMid}
 use native.Mathlib.Omega.{arith}
@@ -18,9 +18,9 @@ use Rattle.lists.specs.Walk.{cell, picked, rowsFrom, stopFrom, itemOf}
 use Rattle.lists.specs.Parts.{countOf}
 use Rattle.lists.proofs.Counts.{filter-length, count-broken, count-rows}
 use Rattle.lists.proofs.Gives.{walk-length}
-use Rattle.walks.specs.declared.parts.Leg.{Leg}
-use Rattle.walks.specs.declared.parts.Settled.the-variants as Settled·
-use Rattle.walks.specs.Legs.{legTakes, legGives, legsGive, legEnds, legsTold, settled, Tables3, tables3, roomFor, edgesTold}
+use Rattle.legs.specs.declared.parts.Leg.{Leg}
+use Rattle.legs.specs.declared.parts.Settled.the-variants as Settled·
+use Rattle.legs.specs.Legs.{legTakes, legGives, legsGive, legEnds, legsTold, settled, Tables3, tables3, roomFor, edgesTold}
 
 -- what counting a leg says of it
 module _ (links ends : List ℕ) (m : ℕ) (leg : Leg) where

@@ -12,10 +12,10 @@ use Rattle.lists.specs.declared.Item.{Item}
 use Rattle.lists.specs.declared.Item.the-variants.{Number, Near, Far}
 use Rattle.lists.specs.declared.Pick.{Pick}
 use Rattle.lists.specs.Walk.{rowsFrom, takenFrom, stopFrom, itemOf}
-use Rattle.walks.specs.declared.parts.Leg.{Leg}
-use Rattle.walks.specs.declared.parts.Settled.{Settled}
-use Rattle.walks.specs.declared.parts.Settled.the-variants.{Rows}
-use Rattle.walks.specs.declared.parts.Settled.the-variants as Settled·
+use Rattle.legs.specs.declared.parts.Leg.{Leg}
+use Rattle.legs.specs.declared.parts.Settled.{Settled}
+use Rattle.legs.specs.declared.parts.Settled.the-variants.{Rows}
+use Rattle.legs.specs.declared.parts.Settled.the-variants as Settled·
 
 -- the leg from the head of node a's list in direction k
 abbrev pub legAt : List ℕ → ℕ → Pick → ℕ → Leg
