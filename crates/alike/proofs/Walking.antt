@@ -16,7 +16,7 @@ use Rattle.lists.specs.declared.Item.{Item}
 use Rattle.lists.specs.declared.Item.the-variants.{Number, Near, Far, Weight}
 use Rattle.lists.specs.Walk.{linkAt, filter, picks, gives, around}
 use Rattle.lists.proofs.Chains.{chain-ends}
-use Rattle.walks.specs.Legs.{Tables3, giveThree}
+use Rattle.legs.specs.Legs.{Tables3, giveThree}
 use Rattle.walks.specs.Walks.{walked, neighbors, edgeWeights, edgesBetween, edges}
 use Rattle.sound.specs.Sound.{endAt, Sound}
 use Rattle.sound.proofs.Exactly.{small, lists-are}

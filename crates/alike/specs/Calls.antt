@@ -15,7 +15,7 @@ use Rattle.tables.specs.Answers.{out, done, refused, onto, give}
 use Rattle.lookups.specs.Lookups.{nodeWeight, edgeWeight, edgeEndpoints, firstEdge, nextEdge, setNodeWeight, setEdgeWeight}
 use Rattle.rows.specs.Calls.{addNode, addEdge, allEdgeWeights, clear, clearEdges}
 use Rattle.lists.specs.declared.Item.the-variants.{Number}
-use Rattle.walks.specs.Legs.{Tables3, giveThree}
+use Rattle.legs.specs.Legs.{Tables3, giveThree}
 use Rattle.walks.specs.Walks.{neighbors, edgeWeights, edgesBetween, edgesMut, edges}
 use Rattle.find.specs.Find.{findEdge, containsEdge, updateEdge}
 use Rattle.walker.specs.declared.Walker.{Walker}

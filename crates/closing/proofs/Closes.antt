@@ -17,10 +17,10 @@ use Rattle.lists.specs.declared.Item.the-variants.{Weight}
 use Rattle.lists.specs.declared.Pick.the-variants.{Every, NotTo}
 use Rattle.lists.specs.Walk.{linkAt, rowsFrom, picks, gives, around}
 use Rattle.lists.proofs.Chains.{chain-ends}
-use Rattle.walks.specs.declared.parts.Settled.{Settled}
-use Rattle.walks.specs.declared.parts.Settled.the-variants.{Rows}
-use Rattle.walks.specs.declared.parts.Settled.the-variants as Settled·
-use Rattle.walks.specs.Legs.{legAt, settled}
+use Rattle.legs.specs.declared.parts.Settled.{Settled}
+use Rattle.legs.specs.declared.parts.Settled.the-variants.{Rows}
+use Rattle.legs.specs.declared.parts.Settled.the-variants as Settled·
+use Rattle.legs.specs.Legs.{legAt, settled}
 use Rattle.sound.specs.declared.Checked.the-variants as Checked·
 use Rattle.sound.specs.Sound.{lists}
 use Rattle.sound.specs.Check.{checked, accepted}

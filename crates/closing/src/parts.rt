@@ -10,13 +10,13 @@ use crate::NodeRemoved;
 use dropping::parts::drop_node;
 use index::NodeIndex;
 use index::Refusal;
+use legs::parts::Settled;
+use legs::parts::along;
+use legs::parts::settle;
 use lists::Pick;
 use stripping::parts::strip;
 use tables::parts::INCOMING;
 use tables::parts::OUTGOING;
-use walks::parts::Settled;
-use walks::parts::along;
-use walks::parts::settle;
 
 // Node a of a sound network goes, with all its edges; the table has room for their weights.
 pub fn take_node(

@@ -19,7 +19,7 @@ use Rattle.lists.specs.declared.Item.{Item}
 use Rattle.lists.specs.declared.Item.the-variants.{Number, Far}
 use Rattle.lists.specs.Walk.{cell, linkAt, walk, filter, picked, gives, picks, broken, around}
 use Rattle.lists.proofs.Chains.{chain-ends}
-use Rattle.walks.specs.Legs.{Tables3, roomFor, giveThree}
+use Rattle.legs.specs.Legs.{Tables3, roomFor, giveThree}
 use Rattle.walks.specs.Walks.{walked, neighbors, edges, edgesMut, edgesBetween}
 use Rattle.tables.proofs.Laws.{tested}
 use Rattle.find.specs.declared.Sought.{Sought}

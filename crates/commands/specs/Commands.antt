@@ -8,7 +8,7 @@ use Rattle.index.specs.Index.{isEnd}
 use Rattle.tables.specs.Net.{Net}
 use Rattle.tables.specs.Answers.{Told, Out}
 use Rattle.rows.specs.Calls.{addNode, addEdge, clearEdges, clear}
-use Rattle.walks.specs.Legs.{Tables3}
+use Rattle.legs.specs.Legs.{Tables3}
 use Rattle.walks.specs.Walks.{neighbors, edges, edgesMut, edgesBetween}
 use Rattle.find.specs.Find.{findEdge, updateEdge}
 use Rattle.walker.specs.Sums.{sumAround}

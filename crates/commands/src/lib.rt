@@ -1,7 +1,7 @@
 // The commands of a script: each makes one call of the library, and replies what it answers.
 ghost use mathlib.Core.Path.{_≡_};
 ghost use Rattle.tables.specs.Net.{entering, leaving};
-ghost use Rattle.walks.specs.Legs.{tables3};
+ghost use Rattle.legs.specs.Legs.{tables3};
 ghost use Rattle.commands.specs.Commands.{replied, addNodeLine, addEdgeLine, updateEdgeLine, findEdgeLine, removeEdgeLine, removeNodeLine, neighborsLine, edgesLine, edgesMutLine, edgesBetweenLine, sumAroundLine, checkLine, clearEdgesLine, clearLine};
 use closing::remove_node;
 use find::find_edge;

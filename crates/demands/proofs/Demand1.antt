@@ -23,7 +23,7 @@ use Rattle.lists.specs.declared.Spot.{Spot}
 use Rattle.lists.specs.declared.Pick.the-variants.{Every, To, NotTo, ToNot}
 use Rattle.lists.specs.declared.Item.the-variants.{Number, Far, Weight}
 use Rattle.lists.specs.Walk.{takenFrom, stopFrom, picks, broken, around}
-use Rattle.walks.specs.Legs.{roomFor}
+use Rattle.legs.specs.Legs.{roomFor}
 use Rattle.walks.specs.Walks.{walked, neighbors, edgeWeights, edgesBetween, edgesMut, edges}
 use Rattle.find.specs.declared.Sought.{Sought}
 use Rattle.find.specs.declared.Sought.the-variants.{Row, Missing, Endless}
@@ -41,8 +41,9 @@ use Rattle.removal.specs.Removal.{Gone, onPlace, placeOf, bypassed, lastMoved, 
 use Rattle.closing.specs.Closing.{closedIfRoom, removeNode}
 use Rattle.layout.specs.Layout.{version, headBytes, imageLength, marked, versionIn, nodesIn, edgesIn}
 use Rattle.imagerows.specs.Image.{imageOf, loaded}
-use Rattle.image.specs.Calls.{imageWrite, settled, readOne, imageRead, vacated}
-use Rattle.image.proofs.Vacated.{loaded-vacated}
+use Rattle.loading.specs.Loading.{vacated, settled, readOne}
+use Rattle.loading.proofs.Vacated.{loaded-vacated}
+use Rattle.image.specs.Calls.{imageWrite, imageRead}
 use Rattle.text.specs.Lines.{lines}
 use Rattle.commands.specs.Commands.{Replied}
 use Rattle.dispatch.specs.Step.{State, among}

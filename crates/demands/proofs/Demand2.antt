@@ -23,7 +23,7 @@ use Rattle.lists.specs.Chain.{Chain, In}
 use Rattle.lists.specs.Walk.{cell, linkAt, takenFrom, stopFrom, picks, around}
 use Rattle.lists.proofs.Chains.{chain-ends}
 use Rattle.lists.proofs.Walks.{stop-end}
-use Rattle.walks.specs.Legs.{giveThree}
+use Rattle.legs.specs.Legs.{giveThree}
 use Rattle.walks.specs.Walks.{walked, neighbors, edgeWeights, edgesBetween, edgesMut, edges}
 use Rattle.find.specs.Find.{containsEdge}
 use Rattle.walker.specs.declared.Walker.{Walker}

@@ -11,7 +11,7 @@ use Rattle.removal.proofs.Told.{edge-removed-told-once}
 use Rattle.closing.proofs.Told.{node-removed-told-once}
 use Rattle.tables.proofs as tables
 use Rattle.lists.proofs as lists
-use Rattle.walks.proofs as walks
+use Rattle.legs.proofs as legs
 use Rattle.find.proofs as find
 use Rattle.walker.proofs as walker
 use Rattle.sound.proofs as sound
@@ -22,7 +22,7 @@ use Rattle.dropping.proofs as dropping
 use Rattle.closing.proofs as closing
 use Rattle.layout.proofs as layout
 use Rattle.imagerows.proofs as imagerows
-use Rattle.image.proofs as image
+use Rattle.loading.proofs as loading
 use Rattle.demands.specs.Settles.{Settles, SettlesAll}
 use Rattle.demands.proofs.Alike.{alike, answers-alike, told-alike, allColumns}
 
@@ -71,20 +71,20 @@ lists-count κs given x y p q = answers-alike p q
 pub lists-give : Settles lists.parts.give.ended lists.parts.give.Reads.Post
 lists-give κs given x y p q = ap (λ l. (_, (_, (_, (_, (_, (_, (_, (_, (_, (_, (l, _)))))))))))) (alike p q)
 
-pub walks-along : Settles walks.parts.along.ended walks.parts.along.Reads.Post
-walks-along κs given x y p q = answers-alike p q
+pub legs-along : Settles legs.parts.along.ended legs.parts.along.Reads.Post
+legs-along κs given x y p q = answers-alike p q
 
-pub walks-settle : Settles walks.parts.settle.ended walks.parts.settle.Reads.Post
-walks-settle κs given x y p q = answers-alike p q
+pub legs-settle : Settles legs.parts.settle.ended legs.parts.settle.Reads.Post
+legs-settle κs given x y p q = answers-alike p q
 
-pub walks-give-both : Settles walks.parts.give_both.ended walks.parts.give_both.Reads.Post
-walks-give-both κs given x y p q = ap (λ l. (_, (_, (_, (_, (_, (_, (_, (_, (_, (_, (_, (_, (l, _)))))))))))))) (alike p q)
+pub legs-give-both : Settles legs.parts.give_both.ended legs.parts.give_both.Reads.Post
+legs-give-both κs given x y p q = ap (λ l. (_, (_, (_, (_, (_, (_, (_, (_, (_, (_, (_, (_, (l, _)))))))))))))) (alike p q)
 
-pub walks-walk : Settles walks.parts.walk.ended walks.parts.walk.Reads.Post
-walks-walk κs given x y p q = ap (λ o. (o .0, (_, (_, (_, (_, (_, (_, (_, (o .1, _)))))))))) (told-alike toldItems items-told-once p q)
+pub legs-walk : Settles legs.parts.walk.ended legs.parts.walk.Reads.Post
+legs-walk κs given x y p q = ap (λ o. (o .0, (_, (_, (_, (_, (_, (_, (_, (o .1, _)))))))))) (told-alike toldItems items-told-once p q)
 
-pub walks-walk-edges : Settles walks.parts.walk_edges.ended walks.parts.walk_edges.Reads.Post
-walks-walk-edges κs given x y p q = ap (λ o. (o .0, (_, (_, (_, (_, (_, (_, (o .1 .numbers, (o .1 .sources, (o .1 .targets, _))))))))))) (told-alike toldItems items-told-once p q)
+pub legs-walk-edges : Settles legs.parts.walk_edges.ended legs.parts.walk_edges.Reads.Post
+legs-walk-edges κs given x y p q = ap (λ o. (o .0, (_, (_, (_, (_, (_, (_, (o .1 .numbers, (o .1 .sources, (o .1 .targets, _))))))))))) (told-alike toldItems items-told-once p q)
 
 pub find-seek : Settles find.parts.seek.ended find.parts.seek.Reads.Post
 find-seek κs given x y p q = answers-alike p q
@@ -190,8 +190,8 @@ imagerows-write κs given x y p q = ap (λ l. (_, (_, (_, (_, (_, (_, (_, (_, (l
 pub imagerows-load : Settles imagerows.parts.load.ended imagerows.parts.load.Reads.Post
 imagerows-load κs given x y p q = ap (λ g. (_, (g .weights, (g .heads, (g .registers, (g .links, (g .ends, _))))))) (alike p q)
 
-pub image-is-sound : Settles image.parts.is_sound.ended image.parts.is_sound.Reads.Post
-image-is-sound κs given x y p q = answers-alike p q
+pub loading-is-sound : Settles loading.parts.is_sound.ended loading.parts.is_sound.Reads.Post
+loading-is-sound κs given x y p q = answers-alike p q
 
-pub image-read-one : Settles image.parts.read_one.ended image.parts.read_one.Reads.Post
-image-read-one κs given x y p q = ap (λ o. (o .0, allColumns (o .1) _)) (told-alike toldChange change-told-once p q)
+pub loading-read-one : Settles loading.parts.read_one.ended loading.parts.read_one.Reads.Post
+loading-read-one κs given x y p q = ap (λ o. (o .0, allColumns (o .1) _)) (told-alike toldChange change-told-once p q)

@@ -5,6 +5,7 @@ use Rattle.text.proofs as text
 use Rattle.reply.proofs as reply
 use Rattle.commands.proofs as commands
 use Rattle.dispatch.proofs as dispatch
+use Rattle.obeying.proofs as obeying
 use Rattle.script.proofs as script
 use Rattle.demands.specs.Settles.{Settles, SettlesAll}
 use Rattle.demands.proofs.Alike.{alike, answers-alike, allColumns, nodeColumns, edgeColumns, noColumns}
@@ -144,8 +145,8 @@ dispatch-command = (λ κs given. tt, λ κs given x y p q. ap (λ o. (o .reply,
 pub net-run : SettlesAll script.net_run.ended script.net_run.Reads.Pre script.net_run.Reads.Post
 net-run = (λ κs given. tt, λ κs given x y p q. ap (λ o. (o .0, (_, (o .1, _)))) (alike p q))
 
-pub script-answer-line : Settles script.parts.answer_line.ended script.parts.answer_line.Reads.Post
-script-answer-line κs given x y p q =
+pub obeying-answer-line : Settles obeying.parts.answer_line.ended obeying.parts.answer_line.Reads.Post
+obeying-answer-line κs given x y p q =
     ap (λ o. (o .reply, (_, (_, (_, allColumns (o .after .network) (o .after .tables .numbers, (o .after .tables .sources, (o .after .tables .targets, _)))))))) (alike p q)
 
 pub script-run-lines : Settles script.parts.run_lines.ended script.parts.run_lines.Reads.Post

@@ -20,7 +20,7 @@ use Rattle.text.specs.Numbers.{magnitude, fields, operands}
 use Rattle.reply.specs.Replies.{lineOf}
 use Rattle.commands.specs.Commands.{neighborsLine, findEdgeLine, sumAroundLine, removeEdgeLine, removeNodeLine}
 use Rattle.dispatch.specs.Step.{operandsOf, step}
-use Rattle.script.specs.Script.{numbersBehind, lineAnswer}
+use Rattle.obeying.specs.Line.{numbersBehind, lineAnswer}
 use Rattle.demands.specs.Starred.{CasesHold}
 
 pub cases-hold : CasesHold

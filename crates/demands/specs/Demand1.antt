@@ -17,7 +17,7 @@ use Rattle.lookups.specs.Lookups.{nodeWeight, edgeWeight, edgeEndpoints, firstE
 use Rattle.rows.specs.Calls.{addNode, addEdge, allEdgeWeights, clearEdges, clear}
 use Rattle.lists.specs.Chain.{In}
 use Rattle.lists.specs.Walk.{stopFrom}
-use Rattle.walks.specs.Legs.{Tables3}
+use Rattle.legs.specs.Legs.{Tables3}
 use Rattle.walks.specs.Walks.{neighbors, edgeWeights, edgesBetween, edgesMut, edges}
 use Rattle.find.specs.Find.{findEdge, containsEdge, updateEdge}
 use Rattle.walker.specs.declared.Walker.{Walker}
@@ -26,7 +26,8 @@ use Rattle.walker.specs.Sums.{sumAround}
 use Rattle.sound.specs.Check.{checked, toldChecked}
 use Rattle.removal.specs.Removal.{removeEdge}
 use Rattle.closing.specs.Closing.{removeNode}
-use Rattle.image.specs.Calls.{imageWrite, imageRead, vacated}
+use Rattle.loading.specs.Loading.{vacated}
+use Rattle.image.specs.Calls.{imageWrite, imageRead}
 use Rattle.text.specs.Lines.{lines}
 use Rattle.script.specs.Script.{Ran, ran, textOf, answers, Each, begun, run}
 

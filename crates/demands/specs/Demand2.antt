@@ -11,7 +11,7 @@ use Rattle.tables.specs.Net.{Net, fits}
 use Rattle.tables.specs.Answers.{Told, out, done, onto}
 use Rattle.lookups.specs.Lookups.{setNodeWeight, setEdgeWeight}
 use Rattle.rows.specs.Calls.{addNode, addEdge, clearEdges, clear}
-use Rattle.walks.specs.Legs.{Tables3}
+use Rattle.legs.specs.Legs.{Tables3}
 use Rattle.walks.specs.Walks.{neighbors, edgeWeights, edgesBetween, edgesMut, edges}
 use Rattle.find.specs.Find.{findEdge, containsEdge, updateEdge}
 use Rattle.walker.specs.declared.Walker.{Walker}

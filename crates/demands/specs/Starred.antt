@@ -12,11 +12,12 @@ use Rattle.tables.specs.declared.row.Edge.{Edge}
 use Rattle.tables.specs.Net.{Net, net}
 use Rattle.tables.specs.Rows.{vacantNode, vacantEdge}
 use Rattle.tables.proofs.NetworkA.{empty, networkA}
-use Rattle.walks.specs.Legs.{Tables3, tables3}
+use Rattle.legs.specs.Legs.{Tables3, tables3}
 use Rattle.text.specs.Bytes.{newline}
 use Rattle.commands.specs.Commands.{Replied}
 use Rattle.dispatch.specs.Step.{State, state}
-use Rattle.script.specs.Script.{lineAnswer, textOf}
+use Rattle.obeying.specs.Line.{lineAnswer}
+use Rattle.script.specs.Script.{textOf}
 
 -- the bytes of a text
 abbrev pub bytes : String → List ℕ

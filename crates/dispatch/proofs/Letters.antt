@@ -6,7 +6,7 @@ use borrow.Author.Tests.{ne-eqb}
 use Rattle.index.specs.declared.Refusal.the-variants.{NotCommand}
 use Rattle.index.specs.Refusals.{refusalNo}
 use Rattle.tables.specs.Net.{Net}
-use Rattle.walks.specs.Legs.{Tables3, tables3}
+use Rattle.legs.specs.Legs.{Tables3, tables3}
 use Rattle.reply.specs.declared.Reply.{Reply}
 use Rattle.reply.specs.Replies.{bareReply}
 use Rattle.commands.specs.Commands.{replied, addNodeLine, addEdgeLine, updateEdgeLine, findEdgeLine, removeEdgeLine, removeNodeLine, neighborsLine, edgesLine, edgesMutLine, edgesBetweenLine, sumAroundLine, checkLine, clearEdgesLine, clearLine}

@@ -8,7 +8,7 @@ use lib.IntN.{ℤ}
 use Rattle.index.specs.declared.Refusal.the-variants.{NotCommand}
 use Rattle.index.specs.Refusals.{refusalNo}
 use Rattle.tables.specs.Net.{Lent, Net, entering, leaving}
-use Rattle.walks.specs.Legs.{Tables3, tables3}
+use Rattle.legs.specs.Legs.{Tables3, tables3}
 use Rattle.removal.specs.Parts.{Count}
 use Rattle.reply.specs.declared.Reply.{Reply}
 use Rattle.reply.specs.Replies.{bareReply}

@@ -2,7 +2,7 @@
 ghost use mathlib.Core.Path.{_≡_};
 ghost use Rattle.tables.specs.Net.{entering, leaving};
 ghost use Rattle.tables.specs.Answers.{out};
-ghost use Rattle.walks.specs.Legs.{tables3};
+ghost use Rattle.legs.specs.Legs.{tables3};
 ghost use Rattle.walks.specs.Walks.{neighbors, edges, edgeWeights, edgesBetween, edgesMut};
 ghost use Rattle.find.specs.Find.{findEdge, containsEdge, updateEdge};
 ghost use Rattle.walker.specs.Steps.{begin, step};

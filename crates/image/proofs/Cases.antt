@@ -14,7 +14,8 @@ use Rattle.sound.specs.Check.{walked, upTo, oneWay, checked}
 use Rattle.layout.specs.Numbers.{le, number, numberAt, bits, signed}
 use Rattle.layout.specs.Layout.{head, nodeBytes, edgeBytes, marked, nodeAt, edgeAt}
 use Rattle.imagerows.specs.Image.{rowsOf, imageOf, each, loaded}
-use Rattle.image.specs.Calls.{settled, readOne, imageRead}
+use Rattle.loading.specs.Loading.{settled, readOne}
+use Rattle.image.specs.Calls.{imageRead}
 
 -- one node weighing -3, no edges
 abbrev oneNode : Net

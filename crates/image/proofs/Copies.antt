@@ -10,7 +10,6 @@ use lib.Dec.{leb, eqb}
 use lib.ListN.{length, getD}
 use Rattle.index.specs.declared.Refusal.{Refusal}
 use Rattle.index.specs.declared.Refusal.the-variants.{Tables, Full, Broken, Short, NotImage, Version}
-use Rattle.index.specs.Refusals.{refusalNo}
 use Rattle.index.proofs.Laws.{not-zero}
 use Rattle.tables.specs.Net.{Net, fits, nodeCell, edgeCell}
 use Rattle.tables.specs.Answers.{Out, out, done, refused, unless, onto}
@@ -26,7 +25,8 @@ use Rattle.layout.specs.Layout.{version, headBytes, imageLength, marked, versio
 use Rattle.layout.proofs.Words.{node-read, edge-read}
 use Rattle.imagerows.specs.Image.{imageOf, nodePlace, edgePlace, loaded}
 use Rattle.image.specs.RoundTrip.{Cells, SameRows}
-use Rattle.image.specs.Calls.{settled, imageWrite, readOne, imageRead, vacated}
+use Rattle.loading.specs.Loading.{vacated, settled, readOne}
+use Rattle.image.specs.Calls.{imageWrite, imageRead}
 use Rattle.imagerows.proofs.Served.{image-length}
 use Rattle.imagerows.proofs.Spans.{image-marked, image-version, image-nodes, image-edges, node-stands, edge-stands}
 use Rattle.imagerows.proofs.Loads.{loaded-columns, loaded-fits, loaded-node, loaded-edge}

@@ -26,10 +26,11 @@ use Rattle.layout.proofs.Words.{node-back, edge-back}
 use Rattle.imagerows.specs.Image.{imageOf, nodePlace, edgePlace, loaded}
 use Rattle.image.specs.RoundTrip.{Cells, SameRows}
 use Rattle.sound.specs.Check.{isSound}
-use Rattle.image.specs.Calls.{settled, imageWrite, readOne, imageRead, vacated}
+use Rattle.loading.specs.Loading.{vacated, settled, readOne}
+use Rattle.image.specs.Calls.{imageWrite, imageRead}
 use Rattle.imagerows.proofs.Spans.{mark-again, image-again}
 use Rattle.imagerows.proofs.Loads.{loaded-columns, loaded-fits, loaded-node, loaded-edge, node-past, edge-past}
-use Rattle.image.proofs.Vacated.{loaded-vacated}
+use Rattle.loading.proofs.Vacated.{loaded-vacated}
 use Rattle.image.proofs.Copies.{sound-is, is-sound-says, read-says, read-is, write-says, write-is, copy-same, copy-read}
 
 -- what was written, read into other tables

@@ -5,13 +5,13 @@ use mathlib.Core.Bool.{_&&_}
 use mathlib.Core.List.{List}
 use lib.Dec.{leb, eqb}
 use lib.ListN.{length}
-use Rattle.index.specs.declared.Refusal.the-variants.{Tables, Full, Broken, NotImage, Version}
-use Rattle.tables.specs.Net.{Net, fits, withCounts}
-use Rattle.tables.specs.Answers.{Out, out, done, refused, unless, give}
-use Rattle.tables.specs.Rows.{vacantNodes, vacantEdges}
+use Rattle.index.specs.declared.Refusal.the-variants.{Tables, Broken, NotImage, Version}
+use Rattle.tables.specs.Net.{Net, fits}
+use Rattle.tables.specs.Answers.{Out, out, refused, unless, give}
 use Rattle.sound.specs.Check.{isSound}
-use Rattle.layout.specs.Layout.{version, headBytes, imageLength, marked, versionIn, nodesIn, edgesIn}
-use Rattle.imagerows.specs.Image.{imageOf, loaded}
+use Rattle.layout.specs.Layout.{version, headBytes, marked, versionIn}
+use Rattle.imagerows.specs.Image.{imageOf}
+use Rattle.loading.specs.Loading.{readOne}
 
 -- the image into an output table: 1, 6, 7
 unfoldable pub imageWrite : Net → List ℕ → Out ℕ (List ℕ)
@@ -19,25 +19,6 @@ imageWrite g bytes =
     unless (fits g) (out (refused Tables 0) bytes)
     (unless (isSound g) (out (refused Broken 0) bytes)
     (give (imageOf g) bytes))
-
--- no row is in use, and all rows lent are vacant
-unfoldable pub vacated : Net → Net
-vacated g = withCounts (vacantEdges (vacantNodes g 0 (length (g .weights))) 0 (length (g .registers))) 0 0
-
--- a network that was loaded stays if it is sound; else 6, and nothing is left of it
-unfoldable pub settled : Net → Out Unit Net
-settled g =
-    unless (isSound g) (out (refused Broken tt) (vacated g))
-    (out (done tt) g)
-
--- a version 1 image: 2 for its counts, 8 for its length, 6
-unfoldable pub readOne : Net → List ℕ → Out Unit Net
-readOne g bytes =
-    let n = nodesIn bytes in
-    let m = edgesIn bytes in
-    unless (leb n (length (g .weights)) && leb m (length (g .registers))) (out (refused Full tt) g)
-    (unless (eqb (length bytes) (imageLength n m)) (out (refused NotImage tt) g)
-    (settled (loaded g bytes n m)))
 
 -- any bytes: 1, 8, 9, then by the version
 unfoldable pub imageRead : Net → List ℕ → Out Unit Net

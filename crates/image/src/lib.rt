@@ -11,13 +11,11 @@ use layout::VERSION_AT;
 use layout::image_length;
 use layout::parts::half;
 use layout::parts::marked;
-use parts::is_sound;
-use parts::read_one;
+use loading::parts::is_sound;
+use loading::parts::read_one;
 use tables::Changed;
 use tables::Items;
 use tables::parts::fits;
-
-pub mod parts;
 
 // The network's image at the front of `bytes`; its length.
 pub fn image_write(

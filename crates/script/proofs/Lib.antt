@@ -1,9 +1,6 @@
-pub mod Reading
-pub mod Listing
 pub mod Turns
 pub mod Limits
 pub mod Whole
 pub mod Throughout
-pub mod Sizes
 pub mod Sayings
 pub mod Cases

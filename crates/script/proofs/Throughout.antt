@@ -16,8 +16,9 @@ use Rattle.commands.specs.Commands.{Replied}
 use Rattle.commands.proofs.Kept.{Sane}
 use Rattle.dispatch.specs.Step.{State}
 use Rattle.dispatch.proofs.Keeps.{step-keeps, step-6}
-use Rattle.script.specs.Script.{nodeRoom, edgeRoom, lineAnswer, answers, Each, emptyNet, begun}
-use Rattle.script.proofs.Reading.{line-so}
+use Rattle.obeying.specs.Line.{lineAnswer}
+use Rattle.script.specs.Script.{nodeRoom, edgeRoom, answers, Each, emptyNet, begun}
+use Rattle.obeying.proofs.Reading.{line-so}
 
 -- an empty network within the limits fits and is sound
 pub empty-sane : (nodes edges : ℕ) → nodes ≤ nodeRows → edges ≤ edgeRows → Sane (emptyNet nodes edges)

@@ -23,7 +23,8 @@ use Rattle.reply.proofs.Fitting.{written, untouched}
 use Rattle.commands.specs.Commands.{Replied, replied}
 use Rattle.dispatch.specs.Step.{State}
 use Rattle.script.specs.declared.parts.Ended.{Ended}
-use Rattle.script.specs.Script.{lineAnswer, answers, textOf, Ran, ran, printed, runFrom}
+use Rattle.obeying.specs.Line.{lineAnswer}
+use Rattle.script.specs.Script.{answers, textOf, Ran, ran, printed, runFrom}
 use Rattle.script.specs.Parts.{stateLeft, Ends}
 
 -- the first line's answer, then those of the others

@@ -2,23 +2,14 @@
 use Prim.Native.Nat.{ℕ, _+_, _≤_}
 use mathlib.Core.Path.{_≡_}
 use mathlib.Core.List.{List, [], _∷_}
-use mathlib.Core.Option.{Option, none, some}
 use lib.Dec.{leb}
 use lib.ListN.{length}
 use Rattle.tables.specs.Answers.{unless, onto}
 use Rattle.text.specs.Lines.{lines}
 use Rattle.commands.specs.Commands.{Replied}
-use Rattle.dispatch.specs.declared.Numbers.{Numbers}
 use Rattle.dispatch.specs.Step.{State}
-use Rattle.script.specs.declared.parts.Behind.{Behind}
-use Rattle.script.specs.declared.parts.Behind.the-variants as Behind·
 use Rattle.script.specs.declared.parts.Ended.{Ended}
 use Rattle.script.specs.Script.{mostBytes, answers, textOf, runFrom}
-
--- the numbers behind a letter, or that there are none
-abbrev pub behindOf : Option Numbers → Behind
-behindOf none = Behind·.Bad
-behindOf (some o) = Behind·.Given o
 
 -- a script that is not too long, an output that has the bytes up to the limit, a table of not too many items
 pub record Runnable (script output : List ℕ) (limit : ℕ) (items : List ℕ) : Type 0 where

@@ -1,24 +1,21 @@
 -- The run of a whole script: its bytes in, the bytes of its answer lines out.
 use Prim.{Unit}
 use Prim.Native.Nat.{ℕ, _+_, _*_, _^_, min}
-use mathlib.Core.Bool.{cond}
 use mathlib.Core.List.{List, [], _∷_, _++_, map}
-use mathlib.Core.Option.{Option, none, some}
-use lib.Dec.{eqb, leb}
-use lib.IntN.{ℤ, pos}
-use lib.ListN.{length, getD, replicate}
+use lib.Dec.{leb}
+use lib.IntN.{pos}
+use lib.ListN.{length, replicate}
 use Rattle.index.specs.declared.Refusal.the-variants.{Tables, Short}
 use Rattle.index.specs.Index.{END}
 use Rattle.index.specs.Refusals.{refusalNo}
 use Rattle.tables.specs.Net.{Net, net, nodeCells, edgeCells}
 use Rattle.tables.specs.Answers.{unless, onto}
-use Rattle.walks.specs.Legs.{tables3}
-use Rattle.text.specs.Numbers.{operands, weightOperand}
+use Rattle.legs.specs.Legs.{tables3}
 use Rattle.text.specs.Lines.{lines}
 use Rattle.reply.specs.Replies.{lineOf}
 use Rattle.commands.specs.Commands.{Replied}
-use Rattle.dispatch.specs.declared.Numbers.{Numbers}
-use Rattle.dispatch.specs.Step.{State, state, noCommand, operandsOf, step}
+use Rattle.dispatch.specs.Step.{State, state}
+use Rattle.obeying.specs.Line.{lineAnswer}
 
 -- a script has at most so many bytes, and so have its answers
 abbrev pub mostBytes : ℕ
@@ -33,30 +30,6 @@ edgeRoom = 1024
 
 abbrev pub itemRoom : ℕ
 itemRoom = 2048
-
--- the numbers of a command: a node weight, or up to three others; those that it has not are 0
-abbrev pub weightAlone : Option ℤ → Option Numbers
-weightAlone none = none
-weightAlone (some w) = some (record { w = w; a = 0; b = 0; c = 0 })
-
-abbrev pub upToThree : Option (List ℕ) → Option Numbers
-upToThree none = none
-upToThree (some xs) = some (record { w = pos 0; a = getD xs 0 0; b = getD xs 1 0; c = getD xs 2 0 })
-
--- behind `N` stands a node weight, behind any other letter as many numbers as its command has
-unfoldable pub numbersBehind : ℕ → List ℕ → Option Numbers
-numbersBehind letter text =
-    cond (eqb letter 78) (weightAlone (weightOperand text)) (upToThree (operands (operandsOf letter) text))
-
--- a letter with its numbers does what its command does; without them the line is no command
-abbrev pub obeyed : ℕ → Option Numbers → State → Replied State
-obeyed letter none s = noCommand s
-obeyed letter (some o) s = step letter o s
-
--- a line is one letter and its numbers: its answer, and the state that it leaves
-unfoldable pub lineAnswer : List ℕ → State → Replied State
-lineAnswer [] s = noCommand s
-lineAnswer (letter ∷ text) s = obeyed letter (numbersBehind letter text) s
 
 -- the answers of all lines, each line from the state that the one before it left; refused and bad ones don't stop them
 unfoldable pub answers : List (List ℕ) → State → List (Replied State)

@@ -1,15 +1,15 @@
 -- A call whose node exists tells what its two legs tell. Assumes nothing.
 use Prim.Native.Nat.{ℕ, _<_}
-use mathlib.Core.Path.{_≡_, refl, sym, ap, ap₂, _∙_}
+use mathlib.Core.Path.{_≡_, refl, ap}
 use mathlib.Core.Bool.{Bool, true, false, not, _&&_}
-use mathlib.Core.List.{List, [], _∷_, _++_, map}
+use mathlib.Core.List.{List, [], _∷_, map}
 use borrow.Author.Tests.{lt-ltb}
 use Rattle.tables.specs.Net.{Net, fits}
 use Rattle.tables.specs.Answers.{Out}
 use Rattle.lists.specs.declared.Item.the-variants.{Number, Far, Weight}
 use Rattle.lists.specs.declared.Pick.the-variants.{Every, To, NotTo, ToNot}
 use Rattle.lists.specs.Walk.{itemOf}
-use Rattle.walks.specs.Legs.{legAt, legTakes, legGives, legsTold, Tables3, edgesTold}
+use Rattle.legs.specs.Legs.{legAt, legTakes, legsTold, Tables3, edgesTold}
 use Rattle.walks.specs.Walks.{neighbors, edges, edgeWeights, edgesBetween, edgesMut}
 
 and-swap : (a b : Bool) → (a && b) ≡ (b && a)

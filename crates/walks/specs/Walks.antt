@@ -9,7 +9,7 @@ use Rattle.tables.specs.Answers.{Out, out, done, refused, unless, give}
 use Rattle.lists.specs.declared.Pick.the-variants.{Every, To, ToNot}
 use Rattle.lists.specs.declared.Item.the-variants.{Far, Weight}
 use Rattle.lists.specs.Walk.{picks, broken, around}
-use Rattle.walks.specs.Legs.{Tables3, giveThree}
+use Rattle.legs.specs.Legs.{Tables3, giveThree}
 
 -- both lists are settled before the room for the items is tested; a missing node has no items
 abbrev pub walked : {S : Type 0} → Net → ℕ → S → Out ℕ S → Out ℕ S

@@ -4,20 +4,18 @@ ghost use mathlib.Core.Path.{_≡_};
 ghost use Rattle.tables.specs.Net.{entering};
 ghost use Rattle.tables.specs.Answers.{out, toldItems};
 ghost use Rattle.walks.specs.Walks.{neighbors, edges, edgeWeights, edgesBetween, edgesMut};
-ghost use Rattle.walks.specs.Legs.{tables3};
+ghost use Rattle.legs.specs.Legs.{tables3};
 use index::NodeIndex;
 use index::Refusal;
+use legs::parts::along;
+use legs::parts::walk;
+use legs::parts::walk_edges;
 use lists::Item;
 use lists::Pick;
-use parts::along;
-use parts::walk;
-use parts::walk_edges;
 use tables::Items;
 use tables::parts::INCOMING;
 use tables::parts::OUTGOING;
 use tables::parts::fits;
-
-pub mod parts;
 
 // The far ends of the outgoing list, then those of the incoming list without self-loops.
 pub fn neighbors(

@@ -1,6 +1,6 @@
 -- `walks::edge_weights` meets its contract: each `return` rewrites with the tests that led there. Assumes nothing.
 use borrow.Author.Needs.{needs}
-use borrow.Author.Tests.{lt-ltb, le-ltb}
+use borrow.Author.Tests.{le-ltb}
 use native.Mathlib.Omega.{arith}
 use Rattle.tables.proofs.Laws.{misfit, fitted, fitting}
 use Rattle.walks.specs.Walks.{edgeWeights}

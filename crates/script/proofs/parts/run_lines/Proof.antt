@@ -7,9 +7,9 @@ use lib.IntN.{ℤ}
 use lib.ListN.{length}
 use borrow.Author.Needs.{needs}
 use Rattle.tables.specs.Net.{net}
-use Rattle.walks.specs.Legs.{tables3}
+use Rattle.legs.specs.Legs.{tables3}
 use Rattle.dispatch.specs.Step.{state}
-use Rattle.script.proofs.Listing.{listed-so}
+use Rattle.obeying.proofs.Listing.{listed-so}
 use Rattle.script.proofs.Turns.{Going, started, turned, stopped, ended}
 use Rattle.script.proofs.parts.run_lines.Statement.{statement}
 use Rattle.script.proofs.parts.run_lines.Tie as tie

@@ -1,0 +1,47 @@
+-- `parts::answer_line` meets its contract: the line by its first byte, and what is behind it. Assumes nothing.
+use borrow.Author.Needs.{needs}
+use mathlib.Core.Path.{sym, _∙_}
+use native.Mathlib.Omega.{arith}
+use Rattle.text.proofs.Fields.{nothing-there, first-there}
+use Rattle.obeying.proofs.Reading.{empty-line, unknown-line, bad-line, good-line}
+use Rattle.obeying.proofs.parts.answer_line.Statement.{statement}
+use Rattle.obeying.proofs.parts.answer_line.Tie as tie
+
+returns : tie.Need-returns
+returns c = rw (nothing-there (c .before .before .before .before .before .before .before .before .before .before .pre) (c .before .if1 .taken)) (empty-line _ (c .refused .ensures))
+
+returns-2 : tie.Need-returns-2
+returns-2 c = rw (first-there (c .before .before .before .before .before .before .before .before .before .before .before .before .before .pre) (c .before .before .before .before .if1 .left)) (unknown-line _ (c .refused2 .ensures) _ _ (omega (arith, c .before .before .operands-of .ensures, c .before .if2 .taken)))
+
+returns-3 : tie.Need-returns-3
+returns-3 c = rw (first-there (c .before .before .before .before .before .before .before .before .before .before .before .before .before .before .before .before .pre) (c .before .before .before .before .before .before .before .if1 .left)) (bad-line _ (c .refused3 .ensures) _ _ (sym (c .before .enum-told .given .1) ∙ c .before .before .before .read-numbers .ensures))
+
+returns-4 : tie.Need-returns-4
+returns-4 c = rw (first-there (c .before .before .before .before .before .before .before .before .before .before .before .before .before .before .before .before .before .before .before .before .before .before .before .before .before .before .before .before .before .before .before .before .before .before .before .before .before .before .before .before .before .before .pre) (c .before .before .before .before .before .before .before .before .before .before .before .before .before .before .before .before .before .before .before .before .before .before .before .before .before .before .before .before .before .before .before .before .before .if1 .left)) (good-line _ _ _ (sym (c .before .before .before .before .before .before .before .before .before .before .before .before .before .before .before .before .before .before .before .before .before .before .before .before .before .before .before .numbers .given .1) ∙ c .before .before .before .before .before .before .before .before .before .before .before .before .before .before .before .before .before .before .before .before .before .before .before .before .before .before .before .before .before .read-numbers .ensures) (c .before .before .before .before .before .before .before .before .before .before .before .before .before .before .before .dispatch .ensures))
+
+pub answer-line-spec : {M : Type 1} → statement M
+answer-line-spec =
+    tie.close
+    (tie.spec
+    (λ c κs. search needs)
+    returns
+    (λ c. search needs)
+    (λ c κs. search needs)
+    (λ c κs. search needs)
+    returns-2
+    (λ c. search needs)
+    (λ c κs. search needs)
+    (λ c. search needs)
+    (λ c. search needs)
+    (λ c κs. search needs)
+    returns-3
+    (λ c κs. search needs)
+    (λ c. search needs)
+    (λ c. search needs)
+    (λ c. search needs)
+    (λ c. search needs)
+    (λ c. search needs)
+    (λ c. search needs)
+    (λ c. search needs)
+    (λ c. search needs)
+    returns-4)
