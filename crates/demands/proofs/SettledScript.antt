@@ -1,6 +1,7 @@
 -- The same of what a script is made of, and of its run: its texts, its answer lines, its commands. Assumes nothing.
 use Prim.{tt}
 use mathlib.Core.Path.{ap}
+use Rattle.printing.proofs as printing
 use Rattle.text.proofs as text
 use Rattle.reply.proofs as reply
 use Rattle.commands.proofs as commands
@@ -10,32 +11,32 @@ use Rattle.script.proofs as script
 use Rattle.demands.specs.Settles.{Settles, SettlesAll}
 use Rattle.demands.proofs.Alike.{alike, answers-alike, allColumns, nodeColumns, edgeColumns, noColumns}
 
-pub text-width : Settles text.parts.width.ended text.parts.width.Reads.Post
-text-width κs given x y p q = answers-alike (p .is) (q .is)
+pub printing-width : Settles printing.parts.width.ended printing.parts.width.Reads.Post
+printing-width κs given x y p q = answers-alike (p .is) (q .is)
 
-pub text-write-number : Settles text.parts.write_number.ended text.parts.write_number.Reads.Post
-text-write-number κs given x y p q = λ i. (alike (p .ends-at) (q .ends-at) i, (alike (p .bytes-are) (q .bytes-are) i, _))
+pub printing-write-number : Settles printing.parts.write_number.ended printing.parts.write_number.Reads.Post
+printing-write-number κs given x y p q = λ i. (alike (p .ends-at) (q .ends-at) i, (alike (p .bytes-are) (q .bytes-are) i, _))
 
-pub text-write-byte : Settles text.parts.write_byte.ended text.parts.write_byte.Reads.Post
-text-write-byte κs given x y p q = λ i. (alike (p .ends-at) (q .ends-at) i, (alike (p .bytes-are) (q .bytes-are) i, _))
+pub printing-write-byte : Settles printing.parts.write_byte.ended printing.parts.write_byte.Reads.Post
+printing-write-byte κs given x y p q = λ i. (alike (p .ends-at) (q .ends-at) i, (alike (p .bytes-are) (q .bytes-are) i, _))
 
-pub text-signed-width : Settles text.parts.signed_width.ended text.parts.signed_width.Reads.Post
-text-signed-width κs given x y p q = answers-alike (p .is) (q .is)
+pub printing-signed-width : Settles printing.parts.signed_width.ended printing.parts.signed_width.Reads.Post
+printing-signed-width κs given x y p q = answers-alike (p .is) (q .is)
 
-pub text-write-signed : Settles text.parts.write_signed.ended text.parts.write_signed.Reads.Post
-text-write-signed κs given x y p q = λ i. (alike (p .ends-at) (q .ends-at) i, (alike (p .bytes-are) (q .bytes-are) i, _))
+pub printing-write-signed : Settles printing.parts.write_signed.ended printing.parts.write_signed.Reads.Post
+printing-write-signed κs given x y p q = λ i. (alike (p .ends-at) (q .ends-at) i, (alike (p .bytes-are) (q .bytes-are) i, _))
 
-pub text-write-field : Settles text.parts.write_field.ended text.parts.write_field.Reads.Post
-text-write-field κs given x y p q = λ i. (alike (p .ends-at) (q .ends-at) i, (alike (p .bytes-are) (q .bytes-are) i, _))
+pub printing-write-field : Settles printing.parts.write_field.ended printing.parts.write_field.Reads.Post
+printing-write-field κs given x y p q = λ i. (alike (p .ends-at) (q .ends-at) i, (alike (p .bytes-are) (q .bytes-are) i, _))
 
-pub text-write-signed-field : Settles text.parts.write_signed_field.ended text.parts.write_signed_field.Reads.Post
-text-write-signed-field κs given x y p q = λ i. (alike (p .ends-at) (q .ends-at) i, (alike (p .bytes-are) (q .bytes-are) i, _))
+pub printing-write-signed-field : Settles printing.parts.write_signed_field.ended printing.parts.write_signed_field.Reads.Post
+printing-write-signed-field κs given x y p q = λ i. (alike (p .ends-at) (q .ends-at) i, (alike (p .bytes-are) (q .bytes-are) i, _))
 
-pub text-fields-width : Settles text.parts.fields_width.ended text.parts.fields_width.Reads.Post
-text-fields-width κs given x y p q = answers-alike (p .is) (q .is)
+pub printing-fields-width : Settles printing.parts.fields_width.ended printing.parts.fields_width.Reads.Post
+printing-fields-width κs given x y p q = answers-alike (p .is) (q .is)
 
-pub text-write-fields : Settles text.parts.write_fields.ended text.parts.write_fields.Reads.Post
-text-write-fields κs given x y p q = λ i. (alike (p .ends-at) (q .ends-at) i, (alike (p .bytes-are) (q .bytes-are) i, _))
+pub printing-write-fields : Settles printing.parts.write_fields.ended printing.parts.write_fields.Reads.Post
+printing-write-fields κs given x y p q = λ i. (alike (p .ends-at) (q .ends-at) i, (alike (p .bytes-are) (q .bytes-are) i, _))
 
 pub text-read-number : Settles text.parts.read_number.ended text.parts.read_number.Reads.Post
 text-read-number κs given x y p q = answers-alike p q

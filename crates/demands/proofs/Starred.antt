@@ -15,7 +15,7 @@ use Rattle.stripping.specs.Heads.{emptied, stripped}
 use Rattle.dropping.specs.Drop.{dropped}
 use Rattle.closing.specs.Closing.{closedIfRoom, removeNode}
 use Rattle.text.specs.Bytes.{before}
-use Rattle.text.specs.Digits.{spelt, digits, fieldsText}
+use Rattle.printing.specs.Digits.{spelt, digits, fieldsText}
 use Rattle.text.specs.Numbers.{magnitude, fields, operands}
 use Rattle.reply.specs.Replies.{lineOf}
 use Rattle.commands.specs.Commands.{neighborsLine, findEdgeLine, sumAroundLine, removeEdgeLine, removeNodeLine}

@@ -13,7 +13,7 @@ use Rattle.tables.specs.Net.{Net, net}
 use Rattle.tables.specs.Rows.{vacantNode, vacantEdge}
 use Rattle.tables.proofs.NetworkA.{empty, networkA}
 use Rattle.legs.specs.Legs.{Tables3, tables3}
-use Rattle.text.specs.Bytes.{newline}
+use Rattle.printing.specs.Bytes.{newline}
 use Rattle.commands.specs.Commands.{Replied}
 use Rattle.dispatch.specs.Step.{State, state}
 use Rattle.obeying.specs.Line.{lineAnswer}

@@ -4,7 +4,7 @@ use mathlib.Core.Path.{_≡_, refl}
 use mathlib.Core.Bool.{Bool, true, false}
 use mathlib.Core.List.{[], _∷_}
 use lib.IntN.{ℤ, pos, negsuc}
-use Rattle.text.specs.Digits.{spelt, digits, fieldsText}
+use Rattle.printing.specs.Digits.{spelt, digits, fieldsText}
 use Rattle.reply.specs.declared.Reply.{Reply}
 use Rattle.reply.specs.Replies.{bareReply, lineOf}
 

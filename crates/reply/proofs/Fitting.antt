@@ -6,7 +6,7 @@ use native.Mathlib.Decide.{decLt}
 use native.Mathlib.Omega.{arith}
 use borrow.Author.Tests.{le-leb, lt-leb}
 use lib.ListN.{length}
-use Rattle.text.specs.Parts.{Writes}
+use Rattle.printing.specs.Parts.{Writes}
 use Rattle.reply.specs.declared.Written.the-variants as Written·
 use Rattle.reply.specs.Parts.{answered}
 

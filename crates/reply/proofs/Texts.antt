@@ -12,10 +12,10 @@ use lib.IntN.{ℤ}
 use lib.Signed.{mag}
 use lib.ListN.{length, take, length-append}
 use lib.Seq.{length-take-le}
-use Rattle.text.specs.Bytes.{newline}
-use Rattle.text.specs.Digits.{digits, field, fieldsText}
-use Rattle.text.specs.Parts.{Measures, Writes}
-use Rattle.text.proofs.Putting.{writes-on}
+use Rattle.printing.specs.Bytes.{newline}
+use Rattle.printing.specs.Digits.{digits, field, fieldsText}
+use Rattle.printing.specs.Parts.{Measures, Writes}
+use Rattle.printing.proofs.Putting.{writes-on}
 use Rattle.reply.specs.declared.Reply.{Reply}
 use Rattle.reply.specs.Replies.{valuesText, lineOf}
 use Rattle.reply.specs.Parts.{Listed, valueField, headText}

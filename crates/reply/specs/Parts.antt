@@ -5,8 +5,8 @@ use mathlib.Core.List.{List, [], _∷_, _++_}
 use lib.Dec.{leb}
 use lib.IntN.{ℤ}
 use lib.ListN.{length}
-use Rattle.text.specs.Digits.{digits, field}
-use Rattle.text.specs.Parts.{put}
+use Rattle.printing.specs.Digits.{digits, field}
+use Rattle.printing.specs.Parts.{put}
 use Rattle.reply.specs.declared.Reply.{Reply}
 use Rattle.reply.specs.declared.Written.{Written}
 use Rattle.reply.specs.declared.Written.the-variants as Written·

@@ -5,8 +5,8 @@ use mathlib.Core.List.{List, [], _∷_, _++_}
 use lib.Dec.{ltb}
 use lib.IntN.{ℤ, pos}
 use lib.ListN.{take}
-use Rattle.text.specs.Bytes.{newline, minus}
-use Rattle.text.specs.Digits.{digits, signed, field, fieldsText}
+use Rattle.printing.specs.Bytes.{newline, minus}
+use Rattle.printing.specs.Digits.{digits, signed, field, fieldsText}
 use Rattle.reply.specs.declared.Reply.{Reply}
 
 -- a letter and a number alone: a refusal, or a command that has nothing to tell

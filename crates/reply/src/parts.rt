@@ -2,18 +2,18 @@
 ghost use mathlib.Core.Path.{_≡_};
 ghost use Prim.Native.Nat.{_+_, _*_, _≤_};
 ghost use lib.ListN.{length};
-ghost use Rattle.text.specs.Parts.{Measures, Writes};
+ghost use Rattle.printing.specs.Parts.{Measures, Writes};
 ghost use Rattle.reply.specs.Replies.{valuesText, lineOf};
 ghost use Rattle.reply.specs.Parts.{Listed, Room, valueField, headText, answered};
 use crate::Reply;
 use crate::Written;
-use text::parts::fields_width;
-use text::parts::signed_width;
-use text::parts::width;
-use text::parts::write_byte;
-use text::parts::write_field;
-use text::parts::write_fields;
-use text::parts::write_signed_field;
+use printing::parts::fields_width;
+use printing::parts::signed_width;
+use printing::parts::width;
+use printing::parts::write_byte;
+use printing::parts::write_field;
+use printing::parts::write_fields;
+use printing::parts::write_signed_field;
 
 // How many bytes a value takes with its space: none where it is not shown.
 fn value_width(shown: bool, none: bool, z: i64) -> usize

@@ -19,8 +19,9 @@ use Rattle.removal.specs.Removal.{bypassed, lastOut, lastInto, lastMoved, gone,
 use Rattle.stripping.specs.Heads.{emptied, stripped}
 use Rattle.dropping.specs.Drop.{dropped}
 use Rattle.closing.specs.Closing.{closedIfRoom, removeNode}
-use Rattle.text.specs.Bytes.{newline, before}
-use Rattle.text.specs.Digits.{spelt, digits, fieldsText}
+use Rattle.printing.specs.Bytes.{newline}
+use Rattle.text.specs.Bytes.{before}
+use Rattle.printing.specs.Digits.{spelt, digits, fieldsText}
 use Rattle.text.specs.Numbers.{magnitude, fields, operands, weightOperand}
 use Rattle.text.specs.Lines.{lines}
 use Rattle.reply.specs.Replies.{lineOf}

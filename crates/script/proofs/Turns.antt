@@ -11,9 +11,10 @@ use Rattle.index.specs.declared.Refusal.the-variants.{Short}
 use Rattle.index.specs.Refusals.{refusalNo}
 use Rattle.tables.specs.Answers.{onto}
 use Rattle.text.specs.Lines.{lines}
-use Rattle.text.specs.Parts.{put, EndsLine}
+use Rattle.printing.specs.Parts.{put}
+use Rattle.text.specs.Parts.{EndsLine}
 use Rattle.text.proofs.Cutting.{lines-at, lines-end}
-use Rattle.text.proofs.Putting.{put-on, put-nothing}
+use Rattle.printing.proofs.Putting.{put-on, put-nothing}
 use Rattle.reply.specs.declared.Reply.{Reply}
 use Rattle.reply.specs.declared.Written.{Written}
 use Rattle.reply.specs.declared.Written.the-variants as Written·

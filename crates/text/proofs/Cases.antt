@@ -4,7 +4,7 @@ use mathlib.Core.List.{[], _∷_}
 use mathlib.Core.Option.{none, some}
 use lib.IntN.{pos, negsuc}
 use Rattle.text.specs.Bytes.{before}
-use Rattle.text.specs.Digits.{spelt, digits, signed, fieldsText}
+use Rattle.printing.specs.Digits.{spelt, digits, signed, fieldsText}
 use Rattle.text.specs.Numbers.{magnitude, number, weight, fields, operands, weightOperand}
 use Rattle.text.specs.Lines.{lines}
 

@@ -9,7 +9,8 @@ use native.Mathlib.Omega.{arith}
 use borrow.Author.Tests.{eq-eqb, ne-eqb}
 use lib.ListN.{length, getD, take, drop, drop-of-length-le}
 use lib.Seq.{slice, drop-cons, take-add, drop-at, drop-drop, length-take-le}
-use Rattle.text.specs.Bytes.{newline, before}
+use Rattle.printing.specs.Bytes.{newline}
+use Rattle.text.specs.Bytes.{before}
 use Rattle.text.specs.Lines.{lines, inFront}
 use Rattle.text.specs.Parts.{EndsLine}
 

@@ -14,7 +14,8 @@ use Rattle.text.specs.declared.parts.Digits.{Digits}
 use Rattle.text.specs.declared.parts.Digits.the-variants as Digits·
 use Rattle.text.specs.declared.Number.the-variants as Number·
 use Rattle.text.specs.declared.Weight.the-variants as Weight·
-use Rattle.text.specs.Bytes.{minus, isDigit}
+use Rattle.printing.specs.Bytes.{minus}
+use Rattle.text.specs.Bytes.{isDigit}
 use Rattle.text.specs.Numbers.{areDigits, magnitude, weight}
 use Rattle.text.specs.Parts.{Within, run, spelledTo, readDigits, readWhole, readNumber, weightOf}
 use Rattle.text.proofs.Runs.{and-l, and-r, run-digit, run-stops, run-empty, no-digits}

@@ -1,6 +1,3 @@
-pub mod Spelling
-pub mod Putting
-pub mod Signs
 pub mod Runs
 pub mod Fields
 pub mod Cutting

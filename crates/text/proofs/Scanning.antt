@@ -14,7 +14,8 @@ use lib.ListN.{length, set, take, drop, length-set}
 use lib.Seq.{slice, sets, set-out, drop-drop}
 use Rattle.text.specs.declared.Operands.the-variants as Operands·
 use Rattle.text.specs.declared.Number.the-variants as Number·
-use Rattle.text.specs.Bytes.{space, isDigit, before}
+use Rattle.printing.specs.Bytes.{space}
+use Rattle.text.specs.Bytes.{isDigit, before}
 use Rattle.text.specs.Numbers.{areDigits, number, both, numbers, fields, operands}
 use Rattle.text.specs.Parts.{Within, run, numberTo, readNumber, readField, threeOf}
 use Rattle.text.proofs.Runs.{and-false, run-digit, run-stops, run-empty, run-short, no-digits}

@@ -9,10 +9,11 @@ use native.Mathlib.Omega.{arith}
 use borrow.Author.Tests.{le-leb, lt-ltb, ne-eqb}
 use lib.IntN.{ℤ, pos, negsuc}
 use lib.Signed.{mag}
-use Rattle.text.specs.Bytes.{glyph, minus, isDigit}
-use Rattle.text.specs.Digits.{digits, signed}
+use Rattle.printing.specs.Bytes.{glyph, minus}
+use Rattle.text.specs.Bytes.{isDigit}
+use Rattle.printing.specs.Digits.{digits, signed}
 use Rattle.text.specs.Numbers.{areDigits, valueOn, magnitude, fitting, number, withSign, weight}
-use Rattle.text.proofs.Spelling.{digits-low, digits-high, digits-some, digits-few}
+use Rattle.printing.proofs.Spelling.{digits-low, digits-high, digits-some, digits-few}
 use Rattle.text.proofs.Runs.{and-true, and-l, and-r, digit-range, magnitude-is, none-at-all, value-last}
 
 are-digits-on : (xs ys : List ℕ) → areDigits xs ≡ true → areDigits ys ≡ true → areDigits (xs ++ ys) ≡ true

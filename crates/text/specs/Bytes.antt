@@ -1,21 +1,8 @@
--- The bytes that mean something in a script and in its answers.
-use Prim.Native.Nat.{ℕ, _+_}
+-- Bytes as they are read.
+use Prim.Native.Nat.{ℕ}
 use mathlib.Core.Bool.{Bool, cond, _&&_}
 use mathlib.Core.List.{List, [], _∷_}
 use lib.Dec.{eqb, leb}
-
-abbrev pub newline : ℕ
-newline = 10
-
-abbrev pub space : ℕ
-space = 32
-
-abbrev pub minus : ℕ
-minus = 45
-
--- the digit d; `0` is 48
-abbrev pub glyph : ℕ → ℕ
-glyph d = 48 + d
 
 abbrev pub isDigit : ℕ → Bool
 isDigit b = leb 48 b && leb b 57

@@ -1,5 +1,4 @@
 pub mod Bytes
-pub mod Digits
 pub mod Numbers
 pub mod Lines
 pub mod Parts

@@ -3,7 +3,7 @@ use Prim.Native.Nat.{ℕ}
 use mathlib.Core.Bool.{cond}
 use mathlib.Core.List.{List, [], _∷_}
 use lib.Dec.{eqb}
-use Rattle.text.specs.Bytes.{newline}
+use Rattle.printing.specs.Bytes.{newline}
 
 -- b stands in front of what the first line has
 abbrev pub inFront : ℕ → List (List ℕ) → List (List ℕ)

@@ -6,7 +6,8 @@ use mathlib.Core.Option.{Option, none, some}
 use lib.Dec.{eqb, ltb, leb}
 use lib.IntN.{ℤ, pos, negℤ}
 use lib.ListN.{length}
-use Rattle.text.specs.Bytes.{space, minus, isDigit, before}
+use Rattle.printing.specs.Bytes.{space, minus}
+use Rattle.text.specs.Bytes.{isDigit, before}
 
 abbrev pub areDigits : List ℕ → Bool
 areDigits [] = true

@@ -2,11 +2,11 @@
 use Prim.Native.Nat.{ℕ, _+_, _≤_}
 use mathlib.Core.Path.{_≡_}
 use mathlib.Core.Bool.{cond}
-use mathlib.Core.List.{List, [], _∷_, _++_}
+use mathlib.Core.List.{List, [], _∷_}
 use mathlib.Core.Option.{Option, none, some}
 use lib.Dec.{eqb}
 use lib.IntN.{ℤ}
-use lib.ListN.{length, getD, take, drop}
+use lib.ListN.{length, getD, drop}
 use Rattle.text.specs.declared.parts.Digits.{Digits}
 use Rattle.text.specs.declared.parts.Digits.the-variants as Digits·
 use Rattle.text.specs.declared.Number.{Number}
@@ -15,22 +15,9 @@ use Rattle.text.specs.declared.Operands.{Operands}
 use Rattle.text.specs.declared.Operands.the-variants as Operands·
 use Rattle.text.specs.declared.Weight.{Weight}
 use Rattle.text.specs.declared.Weight.the-variants as Weight·
-use Rattle.text.specs.Bytes.{newline, space, isDigit, before}
+use Rattle.printing.specs.Bytes.{newline, space}
+use Rattle.text.specs.Bytes.{isDigit, before}
 use Rattle.text.specs.Numbers.{magnitude, number}
-
--- how long a text is, and that this is not much
-pub record Measures (text : List ℕ) (most r : ℕ) : Type 0 where
-  pub is : r ≡ length text
-  pub few : r ≤ most
-
--- the bytes with `text` from `at` on; all others are as they were
-unfoldable pub put : List ℕ → ℕ → List ℕ → List ℕ
-put bytes at text = take at bytes ++ text ++ drop (at + length text) bytes
-
--- a part that writes `text` at `at` leaves that, and answers where the text ends
-pub record Writes (before after : List ℕ) (at : ℕ) (text : List ℕ) (r : ℕ) : Type 0 where
-  pub bytes-are : after ≡ put before at text
-  pub ends-at : r ≡ at + length text
 
 -- a script has the bytes from `at` up to `end`
 pub record Within (script : List ℕ) (at end : ℕ) : Type 0 where

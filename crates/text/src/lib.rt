@@ -1,4 +1,4 @@
-// Numbers in and out, and the cutting of lines: the leaves of the script language.
+// Numbers read, and lines cut: the leaves of the script language.
 pub mod parts;
 
 // An unsigned number, and where its digits end.

@@ -3,7 +3,7 @@ use native.Mathlib.Omega.{arith}
 use mir.Facts.{toZ-ofZ}
 use borrow.Author.Needs.{needs}
 use borrow.Author.Tests.{not-true, not-false}
-use Rattle.text.proofs.Putting.{put-nothing, writes-on}
+use Rattle.printing.proofs.Putting.{put-nothing, writes-on}
 use Rattle.reply.proofs.parts.write_value.Statement.{statement}
 use Rattle.reply.proofs.parts.write_value.Tie as tie
 

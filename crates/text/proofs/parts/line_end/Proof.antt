@@ -4,7 +4,8 @@ use mathlib.Core.Path.{_≡_}
 use native.Mathlib.Omega.{arith}
 use lib.ListN.{length, drop}
 use borrow.Author.Needs.{needs}
-use Rattle.text.specs.Bytes.{newline, before}
+use Rattle.printing.specs.Bytes.{newline}
+use Rattle.text.specs.Bytes.{before}
 use Rattle.text.proofs.Cutting.{mark-here, mark-later, mark-never}
 use Rattle.text.proofs.parts.line_end.Statement.{statement}
 use Rattle.text.proofs.parts.line_end.Tie as tie

@@ -6,7 +6,7 @@ use lib.IntN.{pos, negℤ}
 use mir.Syntax.{w32}
 use mir.Val.{toZ}
 use Rattle.text.proofs.Fields.{nothing-there, first-there, negative-bad, negative-over, negative-fits, plain-bad, plain-over, plain-fits}
-use Rattle.text.proofs.Signs.{opposite, opposite-back, opposite-fits, back32}
+use Rattle.printing.proofs.Signs.{opposite, opposite-back, opposite-fits, back32}
 use Rattle.text.proofs.parts.read_weight.Statement.{statement}
 use Rattle.text.proofs.parts.read_weight.Tie as tie
 

@@ -2,9 +2,9 @@
 use Prim.{tt}
 use native.Mathlib.Numerals.{add-one}
 use native.Mathlib.Omega.{arith}
-use Rattle.text.proofs.Signs.{negative, not-negative, back, mag-opposite, stepped, turned, turned-back}
-use Rattle.text.proofs.parts.absolute.Statement.{statement}
-use Rattle.text.proofs.parts.absolute.Tie as tie
+use Rattle.printing.proofs.Signs.{negative, not-negative, back, mag-opposite, stepped, turned, turned-back}
+use Rattle.printing.proofs.parts.absolute.Statement.{statement}
+use Rattle.printing.proofs.parts.absolute.Tie as tie
 use lib.IntN.{pos}
 
 add-result : tie.Need-add-result

@@ -1,9 +1,9 @@
 -- `parts::write_byte` meets its contract. Assumes nothing.
 use mathlib.Core.Path.{refl}
 use borrow.Author.Needs.{needs}
-use Rattle.text.proofs.Putting.{put-byte}
-use Rattle.text.proofs.parts.write_byte.Statement.{statement}
-use Rattle.text.proofs.parts.write_byte.Tie as tie
+use Rattle.printing.proofs.Putting.{put-byte}
+use Rattle.printing.proofs.parts.write_byte.Statement.{statement}
+use Rattle.printing.proofs.parts.write_byte.Tie as tie
 
 returns : tie.Need-returns
 returns c = record { bytes-are = put-byte _ _ _ (c .pre); ends-at = refl }

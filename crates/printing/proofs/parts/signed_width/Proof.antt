@@ -4,10 +4,10 @@ use mathlib.Core.Path.{_≡_}
 use native.Mathlib.Omega.{arith}
 use mir.Facts.{toZ-ofZ}
 use borrow.Author.Needs.{needs}
-use Rattle.text.proofs.Spelling.{digits-few}
-use Rattle.text.proofs.Signs.{negative, signed-negative, signed-not-negative}
-use Rattle.text.proofs.parts.signed_width.Statement.{statement}
-use Rattle.text.proofs.parts.signed_width.Tie as tie
+use Rattle.printing.proofs.Spelling.{digits-few}
+use Rattle.printing.proofs.Signs.{negative, signed-negative, signed-not-negative}
+use Rattle.printing.proofs.parts.signed_width.Statement.{statement}
+use Rattle.printing.proofs.parts.signed_width.Tie as tie
 
 returns : tie.Need-returns
 returns c =

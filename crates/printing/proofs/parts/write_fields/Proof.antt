@@ -6,12 +6,12 @@ use native.Mathlib.Omega.{arith}
 use lib.ListN.{length, drop, getD}
 use lib.Seq.{sets}
 use borrow.Author.Needs.{needs}
-use Rattle.text.specs.Digits.{digits, field, fieldsText}
-use Rattle.text.specs.Parts.{Writes}
-use Rattle.text.proofs.Spelling.{fields-step, fields-width-step, fields-end}
-use Rattle.text.proofs.Putting.{put-is, writes-some}
-use Rattle.text.proofs.parts.write_fields.Statement.{statement}
-use Rattle.text.proofs.parts.write_fields.Tie as tie
+use Rattle.printing.specs.Digits.{digits, field, fieldsText}
+use Rattle.printing.specs.Parts.{Writes}
+use Rattle.printing.proofs.Spelling.{fields-step, fields-width-step, fields-end}
+use Rattle.printing.proofs.Putting.{put-is, writes-some}
+use Rattle.printing.proofs.parts.write_fields.Statement.{statement}
+use Rattle.printing.proofs.parts.write_fields.Tie as tie
 
 record Going (out₀ : List ℕ) (at : ℕ) (fields out : List ℕ) (to i : ℕ) : Type 0 where
   within : i ≤ length fields

@@ -8,13 +8,13 @@ use native.Mathlib.Omega.{arith}
 use lib.ListN.{length, set, length-set}
 use lib.Seq.{sets}
 use borrow.Author.Needs.{needs}
-use Rattle.text.specs.Bytes.{glyph}
-use Rattle.text.specs.Digits.{digits}
-use Rattle.text.specs.Parts.{Writes}
-use Rattle.text.proofs.Spelling.{places, digits-places, digits-some, digits-bound}
-use Rattle.text.proofs.Putting.{put-is}
-use Rattle.text.proofs.parts.write_number.Statement.{statement}
-use Rattle.text.proofs.parts.write_number.Tie as tie
+use Rattle.printing.specs.Bytes.{glyph}
+use Rattle.printing.specs.Digits.{digits}
+use Rattle.printing.specs.Parts.{Writes}
+use Rattle.printing.proofs.Spelling.{places, digits-places, digits-some, digits-bound}
+use Rattle.printing.proofs.Putting.{put-is}
+use Rattle.printing.proofs.parts.write_number.Statement.{statement}
+use Rattle.printing.proofs.parts.write_number.Tie as tie
 
 -- k digits are to be written
 record Going (out₀ : List ℕ) (at x : ℕ) (out : List ℕ) (to rest power k : ℕ) : Type 0 where

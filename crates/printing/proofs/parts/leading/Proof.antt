@@ -5,10 +5,10 @@ use native.Mathlib.Nat.{le-div-iff-mul-le, div-lt-iff-lt-mul, div-div-eq-div-mul
 use native.Mathlib.Omega.{arith}
 use lib.ListN.{length}
 use borrow.Author.Needs.{needs}
-use Rattle.text.specs.Digits.{digits}
-use Rattle.text.proofs.Spelling.{one-more, only-one}
-use Rattle.text.proofs.parts.leading.Statement.{statement}
-use Rattle.text.proofs.parts.leading.Tie as tie
+use Rattle.printing.specs.Digits.{digits}
+use Rattle.printing.proofs.Spelling.{one-more, only-one}
+use Rattle.printing.proofs.parts.leading.Statement.{statement}
+use Rattle.printing.proofs.parts.leading.Tie as tie
 
 abbrev Power : ℕ → ℕ → Type 0
 Power x power = (0 < power) × ((k : ℕ) × (power ≡ 10 ^ k) × (length (digits x) ≡ length (digits (x / power)) + k))

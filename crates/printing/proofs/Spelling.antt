@@ -9,8 +9,8 @@ use native.Mathlib.Omega.{arith}
 use borrow.Author.Tests.{lt-ltb, le-ltb}
 use lib.ListN.{length, getD, drop, length-append, drop-of-length-le}
 use lib.Seq.{drop-cons}
-use Rattle.text.specs.Bytes.{glyph}
-use Rattle.text.specs.Digits.{digits, spelt, field, fieldsText}
+use Rattle.printing.specs.Bytes.{glyph}
+use Rattle.printing.specs.Digits.{digits, spelt, field, fieldsText}
 
 spelt-low : (f x : ℕ) → x < 10 → spelt (suc f) x ≡ glyph x ∷ []
 unfolding spelt

@@ -1,9 +1,9 @@
 -- `parts::write_field` meets its contract: a space, then the number behind it. Assumes nothing.
 use native.Mathlib.Omega.{arith}
 use borrow.Author.Needs.{needs}
-use Rattle.text.proofs.Putting.{writes-on}
-use Rattle.text.proofs.parts.write_field.Statement.{statement}
-use Rattle.text.proofs.parts.write_field.Tie as tie
+use Rattle.printing.proofs.Putting.{writes-on}
+use Rattle.printing.proofs.parts.write_field.Statement.{statement}
+use Rattle.printing.proofs.parts.write_field.Tie as tie
 
 returns : tie.Need-returns
 returns c =

@@ -4,7 +4,7 @@ use mathlib.Core.Bool.{true, false}
 use mathlib.Core.List.{List, [], _∷_, _++_}
 use lib.Dec.{ltb}
 use lib.IntN.{ℤ, pos, negsuc}
-use Rattle.text.specs.Bytes.{space, minus, glyph}
+use Rattle.printing.specs.Bytes.{space, minus, glyph}
 
 -- the last digits of x, at most `most`, the highest first, without leading zeros; 0 has the one digit 0
 unfoldable pub spelt : ℕ → ℕ → List ℕ

@@ -2,9 +2,9 @@
 use native.Mathlib.Omega.{arith}
 use mir.Facts.{toZ-ofZ}
 use borrow.Author.Needs.{needs}
-use Rattle.text.proofs.Putting.{writes-on}
-use Rattle.text.proofs.parts.write_signed_field.Statement.{statement}
-use Rattle.text.proofs.parts.write_signed_field.Tie as tie
+use Rattle.printing.proofs.Putting.{writes-on}
+use Rattle.printing.proofs.parts.write_signed_field.Statement.{statement}
+use Rattle.printing.proofs.parts.write_signed_field.Tie as tie
 
 write-signed-requires : tie.Need-write-signed-requires
 write-signed-requires c κs =

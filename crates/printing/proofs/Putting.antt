@@ -6,7 +6,7 @@ use native.Mathlib.Nat.{add-zero, add-suc, suc-add}
 use native.Mathlib.Omega.{arith}
 use lib.ListN.{length, set, length-append}
 use lib.Seq.{sets, sets-eq, length-sets}
-use Rattle.text.specs.Parts.{put, Writes}
+use Rattle.printing.specs.Parts.{put, Writes}
 
 -- byte by byte
 pub put-is : (bytes : List ℕ) (at : ℕ) (text : List ℕ) → at + length text ≤ length bytes → sets bytes at text ≡ put bytes at text

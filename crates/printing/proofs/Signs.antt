@@ -10,8 +10,8 @@ use lib.Signed.{mag, ltZ}
 use mir.Syntax.{w32, w64}
 use mir.Val.{toZ, ofZ, SFits}
 use mir.Facts.{toZ-ofZ}
-use Rattle.text.specs.Bytes.{minus}
-use Rattle.text.specs.Digits.{digits, signed}
+use Rattle.printing.specs.Bytes.{minus}
+use Rattle.printing.specs.Digits.{digits, signed}
 
 -- the test `z < 0`, taken or left
 pub negative : (z : ℤ) → SFits w64 z → ltZ (toZ w64 (ofZ w64 z)) (pos 0) ≡ true → (n : ℕ) × (z ≡ negsuc n) × (n < 9223372036854775808)

@@ -4,10 +4,10 @@ use mathlib.Core.Path.{_≡_}
 use native.Mathlib.Omega.{arith}
 use lib.ListN.{length}
 use borrow.Author.Needs.{needs}
-use Rattle.text.specs.Digits.{digits}
-use Rattle.text.proofs.Spelling.{one-more, only-one, digits-few}
-use Rattle.text.proofs.parts.width.Statement.{statement}
-use Rattle.text.proofs.parts.width.Tie as tie
+use Rattle.printing.specs.Digits.{digits}
+use Rattle.printing.proofs.Spelling.{one-more, only-one, digits-few}
+use Rattle.printing.proofs.parts.width.Statement.{statement}
+use Rattle.printing.proofs.parts.width.Tie as tie
 
 abbrev Inv-loop : tie.InvT-loop
 Inv-loop x rest₀ wide₀ rest wide = (wide + rest ≤ x + 1) × (wide + length (digits rest) ≡ length (digits x) + 1)

@@ -4,10 +4,10 @@ use mathlib.Core.Path.{_≡_, ap}
 use native.Mathlib.Omega.{arith}
 use lib.ListN.{length, drop}
 use borrow.Author.Needs.{needs}
-use Rattle.text.specs.Digits.{digits, fieldsText}
-use Rattle.text.proofs.Spelling.{digits-few, fields-width-step, fields-end}
-use Rattle.text.proofs.parts.fields_width.Statement.{statement}
-use Rattle.text.proofs.parts.fields_width.Tie as tie
+use Rattle.printing.specs.Digits.{digits, fieldsText}
+use Rattle.printing.proofs.Spelling.{digits-few, fields-width-step, fields-end}
+use Rattle.printing.proofs.parts.fields_width.Statement.{statement}
+use Rattle.printing.proofs.parts.fields_width.Tie as tie
 
 abbrev Inv-loop : tie.InvT-loop
 Inv-loop fields wide₀ i₀ wide i =

@@ -2,10 +2,10 @@
 use mathlib.Core.Path.{refl}
 use native.Mathlib.Omega.{arith}
 use borrow.Author.Needs.{needs}
-use Rattle.text.proofs.Putting.{writes-on}
-use Rattle.text.proofs.Signs.{signed-negative, signed-not-negative}
-use Rattle.text.proofs.parts.write_signed.Statement.{statement}
-use Rattle.text.proofs.parts.write_signed.Tie as tie
+use Rattle.printing.proofs.Putting.{writes-on}
+use Rattle.printing.proofs.Signs.{signed-negative, signed-not-negative}
+use Rattle.printing.proofs.parts.write_signed.Statement.{statement}
+use Rattle.printing.proofs.parts.write_signed.Tie as tie
 
 write-byte-requires : tie.Need-write-byte-requires
 write-byte-requires c κs =
