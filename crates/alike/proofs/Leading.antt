@@ -13,7 +13,7 @@ use Rattle.lists.specs.declared.Spot.the-variants.{Head, After}
 use Rattle.lists.specs.Walk.{linkAt}
 use Rattle.links.specs.declared.Search.the-variants.{At, Lost}
 use Rattle.links.specs.Links.{seek, headsAt, linksAt, led}
-use Rattle.removal.proofs.Stores.{lead-off, heads-length, links-length}
+use Rattle.links.proofs.Stores.{lead-off, heads-length, links-length}
 use Rattle.links.proofs.Seeks.{seek-found, seek-on, seek-past}
 use Rattle.original.specs.Std.{returns, Two, _!_}
 use Rattle.original.specs.Rust.{Node, Edge, graph, leadPast, changeLinksOf, «change_edge_links»}

@@ -14,6 +14,7 @@ use lib.ListN.{length, getD}
 use Rattle.index.specs.Index.{END}
 use Rattle.tables.specs.Net.{Net, fits}
 use Rattle.tables.specs.Answers.{out, done}
+use Rattle.tables.proofs.Laws.{tested}
 use Rattle.lists.specs.declared.Spot.{Spot}
 use Rattle.lists.specs.declared.Spot.the-variants.{Head, After}
 use Rattle.lists.specs.Walk.{cell, linkAt}
@@ -21,7 +22,7 @@ use Rattle.lists.proofs.Chains.{below}
 use Rattle.sound.specs.Sound.{endAt, Sound, Lists}
 use Rattle.sound.proofs.Same.{counts, members}
 use Rattle.sound.proofs.Exactly.{small}
-use Rattle.sound.proofs.Kept.{fitOf, HasLists, either}
+use Rattle.sound.proofs.Kept.{fitOf, HasLists}
 use Rattle.links.specs.declared.Located.{Located}
 use Rattle.links.specs.declared.Located.the-variants as Located·
 use Rattle.links.specs.declared.Search.the-variants as Search·
@@ -195,11 +196,11 @@ pub edge-refused : (g : Net) (e : ℕ) → (removeEdge g e .answer .number ≡ 0
 unfolding removeEdge takenOut gone lastMoved
 edge-refused g e =
     let P : Gone → Type 0 = λ o. (o .answer .number ≡ 0 → ⊥) → o .after ≡ g in
-    either P (fits g) _ _ (λ n. refl) (λ f.
-    either P (ltb e (g .m)) _ _ (λ n. refl) (λ l.
+    tested P (fits g) _ _ (λ n. refl) (λ f.
+    tested P (ltb e (g .m)) _ _ (λ n. refl) (λ l.
     by-place P (placeOf g e) _ _
     (λ s t rows.
-    either P (eqb e (g .m - 1)) _ _
+    tested P (eqb e (g .m - 1)) _ _
     (by-place P (placeOf (bypassed g e s t) (g .m - 1)) _ _ (λ u v more n. absurd (n refl)) (λ n. refl))
     (λ q n. absurd (n refl)))
     (λ n. refl)))
@@ -208,6 +209,6 @@ pub edge-kept : (g : Net) (ls : ℕ → ℕ → List ℕ) (e : ℕ) → Sound g 
 unfolding removeEdge
 edge-kept g ls e S =
     let P : Gone → Type 0 = λ o. HasLists (o .after) in
-    either P (fits g) _ _ (ls, S) (λ f.
-    either P (ltb e (g .m)) _ _ (ls, S) (λ l.
+    tested P (fits g) _ _ (ls, S) (λ f.
+    tested P (ltb e (g .m)) _ _ (ls, S) (λ l.
     (lessEdge (g .m - 1) e ls, taken-out g ls e f S (ltb-true e (g .m) l) .sound)))

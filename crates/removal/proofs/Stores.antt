@@ -23,8 +23,7 @@ use Rattle.links.specs.Links.{headsAt, linksAt, led}
 use Rattle.removal.specs.Removal.{lastOut, lastInto}
 use Rattle.removal.specs.Lists.{renamed}
 use Rattle.links.specs.Parts.{Place}
-use Rattle.links.proofs.Stores.{lead-at}
-pub use Rattle.links.proofs.Stores.{lead-off, heads-length, links-length}
+use Rattle.links.proofs.Stores.{lead-at, lead-off, heads-length, links-length}
 
 -- the links at s 0 and s 1 lead to v 0 and v 1, the others as before
 pub led-link : (g : Net) (s : ℕ → Spot) (v : ℕ → ℕ) → ((k : ℕ) → k < 2 → Place (length (g .heads)) (length (g .links)) k (s k)) → (k : ℕ) → k < 2
