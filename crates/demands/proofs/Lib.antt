@@ -3,6 +3,7 @@ pub mod SettledCalls
 pub mod SettledParts
 pub mod SettledScript
 pub mod SettledExports
+pub mod SettledLoops
 pub mod Demand1
 pub mod Demand2
 pub mod Demand3
