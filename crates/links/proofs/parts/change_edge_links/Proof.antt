@@ -1,6 +1,8 @@
 -- `change_edge_links` meets its contract. Assumes nothing.
-use mathlib.Core.Path.{refl, ap, _∙_}
+use mathlib.Core.Path.{refl, sym, ap, _∙_}
 use native.Mathlib.Omega.{arith}
+use lib.ListN.{getD}
+use Rattle.tables.specs.Net.{nodeCell}
 use Rattle.lists.specs.declared.Spot.the-variants.{Head}
 use Rattle.links.proofs.Hits.{place-of, place-kept}
 use Rattle.links.proofs.Walks.{incoming-as-before, no-source, no-target, not-met, outgoing-hit, incoming-hit, both-met, second-not-met, heads-again, links-again}
@@ -22,7 +24,7 @@ change-link-requires c κs =
     record {
       direction = omega arith;
       head = omega (arith, c .before .before .before .before .before .before .before .before .if1 .left, p .heads-hold);
-      first-is = rw (c .before .before .before .before .before .index2 .ensures);
+      first-is = ap (λ i. getD (c .before .before .before .before .before .before .before .before .before .before .before .before .before .before .before .before .args .heads .now) (nodeCell i 0) 0) (sym (c .before .before .before .before .before .index2 .ensures));
       links-hold = p .links-hold;
     }
 

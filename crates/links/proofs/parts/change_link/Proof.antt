@@ -60,7 +60,7 @@ loop-again c =
       record {
         few = omega arith;
         wide = c .before .before .slice-known3 .given _ .fits;
-        other = rw (c .before .before .before .index2 .ensures) at (c .if4 .left);
+        other = λ h. omega (arith, h, rw (c .before .before .before .index2 .ensures) at (c .if4 .left));
         so-far =
             λ a q.
             (let w = i .so-far a q in
