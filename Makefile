@@ -37,6 +37,7 @@ rust: staticlib
 
 # How fast it is beside graph.rs, and petgraph where it is installed: prints, and writes docs/BENCH.md.
 bench: staticlib target/staticlib/libscript.a
+	rt staticlib loops
 	bench/run.sh
 
 python: staticlib

@@ -5,6 +5,7 @@
 
 mod count;
 mod input;
+mod loops;
 mod measure;
 mod page;
 mod random;

@@ -13,9 +13,14 @@ pub fn stir(sum: u64, answer: u64) -> u64 {
     sum.rotate_left(5) ^ answer
 }
 
-/// The loops have a body here so that every side does the same around its operations. Where a library
-/// comes to have such a loop inside, one call for many operations, that is one more loop here, with
-/// the same body, which its side overrides by that call.
+/// What there is to tell of an edge: its number, or 5 where there is none, as the proved library has it.
+fn told(edge: u32) -> u64 {
+    if edge == END { 5 } else { edge.into() }
+}
+
+/// The loops have a body here so that every side does the same around its operations. Those named
+/// `many` the proved library has inside, one call for all operations: its side overrides them by that
+/// call. They add up what the operations tell.
 pub trait Side {
     /// Takes out everything, and keeps the tables.
     fn clear(&mut self);
@@ -46,6 +51,34 @@ pub trait Side {
     /// Answer number and length; `None` where the side runs no scripts.
     fn run(&self, _script: &[u8], _out: &mut [u8]) -> Option<u64> {
         None
+    }
+
+    fn add_many(&mut self, input: &Input) -> u64 {
+        let mut sum = 0;
+        for &weight in &input.weights {
+            sum += u64::from(self.add_node(weight));
+        }
+        for &[a, b, weight] in &input.edges {
+            sum += u64::from(self.add_edge(a, b, weight));
+        }
+        sum
+    }
+
+    fn find_many(&mut self, pairs: &[[u32; 2]]) -> u64 {
+        pairs.iter().map(|&[a, b]| told(self.find_edge(a, b))).sum()
+    }
+
+    fn walk_many(&mut self, items: &mut [u32]) -> u64 {
+        (0..self.counts()[0] as u32).fold(0, |sum, a| {
+            let count = self.neighbors_into(a, items);
+            let met = items[..count].iter();
+            met.fold(sum, |sum, &b| sum + u64::from(b))
+        })
+    }
+
+    fn remove_many(&mut self, numbers: &[u32]) -> u64 {
+        let removed = numbers.iter().map(|&e| self.remove_edge(e));
+        removed.map(u64::from).sum()
     }
 
     fn build(&mut self, input: &Input) -> u64 {

@@ -1,9 +1,12 @@
-//! Ours, by the safe crate and so by one C call an operation, and graph.rs.
+//! Ours, by the safe crate and so by one C call an operation, and by the library's own loops; and graph.rs.
+
+use std::mem;
 
 use oracle::graph::{self, UnGraph};
-use waterways::{EdgeDirection, EdgeIndex, Network, NodeIndex, Refusal};
+use waterways::{EdgeDirection, EdgeIndex, Network, NodeIndex, Refusal, Tables};
 
-use crate::input::Size;
+use crate::input::{Input, Size};
+use crate::loops;
 use crate::side::{END, Side};
 
 pub struct Ours(Network);
@@ -12,6 +15,15 @@ impl Ours {
     pub fn make(size: Size) -> Box<dyn Side> {
         let empty = Network::with_rows(size.nodes, size.edges);
         Box::new(Ours(empty.expect("the size is within the limits")))
+    }
+
+    /// A loop of the library on the network's tables.
+    fn on_tables(&mut self, work: impl FnOnce(&mut Tables) -> u64) -> u64 {
+        let stand_in = Network::with_rows(0, 0).expect(SERVED);
+        let mut tables = mem::replace(&mut self.0, stand_in).into_tables();
+        let sum = work(&mut tables);
+        self.0 = Network::from_tables(tables);
+        sum
     }
 }
 
@@ -80,6 +92,25 @@ impl Side for Ours {
 
     fn run(&self, script: &[u8], out: &mut [u8]) -> Option<u64> {
         Some(host::net_run(script, out))
+    }
+
+    fn add_many(&mut self, input: &Input) -> u64 {
+        self.on_tables(|t| {
+            let nodes = loops::add_nodes(t, &input.weights);
+            nodes + loops::add_edges(t, &input.edges)
+        })
+    }
+
+    fn find_many(&mut self, pairs: &[[u32; 2]]) -> u64 {
+        self.on_tables(|t| loops::find_edges(t, pairs))
+    }
+
+    fn walk_many(&mut self, items: &mut [u32]) -> u64 {
+        self.on_tables(|t| loops::neighbors(t, items))
+    }
+
+    fn remove_many(&mut self, numbers: &[u32]) -> u64 {
+        self.on_tables(|t| loops::remove_edges(t, numbers))
     }
 }
 

@@ -11,9 +11,14 @@ pub enum Work {
     Build,
     Find,
     Walk,
-    Sum,
     AllEdges,
     HubEdges,
+    BuildByCalls,
+    FindByCalls,
+    WalkByCalls,
+    SumByCalls,
+    AllEdgesByCalls,
+    HubEdgesByCalls,
     StripHubs,
     Nodes,
     ImageWrite,
@@ -24,16 +29,37 @@ pub enum Work {
 
 use Shape::{Even, Hubs};
 
-/// Every work with its name and the shapes that it is done on.
-pub const WORKS: [(Work, &str, &[Shape]); 12] = [
+/// Every work with its name and the shapes that it is done on. The first five have their loop inside the library.
+pub const WORKS: [(Work, &str, &[Shape]); 17] = [
     (Work::Build, "build", &[Even, Hubs]),
     (Work::Find, "find", &[Even, Hubs]),
     (Work::Walk, "walk all neighbours", &[Even, Hubs]),
-    (Work::Sum, "sum around all nodes", &[Even, Hubs]),
     (Work::AllEdges, "take out all edges", &[Even, Hubs]),
     (Work::HubEdges, "take out hub edges", &[Hubs]),
-    (Work::StripHubs, "strip hubs", &[Hubs]),
-    (Work::Nodes, "take out nodes", &[Even, Hubs]),
+    (Work::BuildByCalls, "build, by calls", &[Even, Hubs]),
+    (Work::FindByCalls, "find, by calls", &[Even, Hubs]),
+    (
+        Work::WalkByCalls,
+        "walk all neighbours, by calls",
+        &[Even, Hubs],
+    ),
+    (
+        Work::SumByCalls,
+        "sum around all nodes, by calls",
+        &[Even, Hubs],
+    ),
+    (
+        Work::AllEdgesByCalls,
+        "take out all edges, by calls",
+        &[Even, Hubs],
+    ),
+    (
+        Work::HubEdgesByCalls,
+        "take out hub edges, by calls",
+        &[Hubs],
+    ),
+    (Work::StripHubs, "strip hubs, by calls", &[Hubs]),
+    (Work::Nodes, "take out nodes, by calls", &[Even, Hubs]),
     (Work::ImageWrite, "write an image", &[Even]),
     (Work::ImageRead, "read an image", &[Even]),
     (Work::AlikeScripts, "scripts without S, X, D", &[Even]),
@@ -98,10 +124,11 @@ impl Task {
     pub fn operations(&self) -> usize {
         let (nodes, edges) = (self.input.weights.len(), &self.input.edges);
         match self.work {
-            Work::Build => nodes + edges.len(),
-            Work::Find | Work::AllEdges => edges.len(),
-            Work::Walk | Work::Sum => 2 * edges.len(),
-            Work::HubEdges => self.input.hub_out.len(),
+            Work::Build | Work::BuildByCalls => nodes + edges.len(),
+            Work::Find | Work::FindByCalls => edges.len(),
+            Work::Walk | Work::WalkByCalls | Work::SumByCalls => 2 * edges.len(),
+            Work::AllEdges | Work::AllEdgesByCalls => edges.len(),
+            Work::HubEdges | Work::HubEdgesByCalls => self.input.hub_out.len(),
             Work::StripHubs => edges.iter().filter(|e| e[0].min(e[1]) < HUBS).count(),
             Work::Nodes => NODES_OUT,
             Work::ImageWrite | Work::ImageRead => 13 + 12 * nodes + 20 * edges.len(),
@@ -112,7 +139,7 @@ impl Task {
     /// Brings a side to where the work begins.
     pub fn prepare(&self, side: &mut dyn Side, room: &mut Room) {
         side.clear();
-        if self.work != Work::Build {
+        if !matches!(self.work, Work::Build | Work::BuildByCalls) {
             side.build(&self.input);
         }
         if self.work == Work::ImageRead {
@@ -133,12 +160,17 @@ impl Task {
 pub fn timed_part(task: &Task, side: &mut dyn Side, room: &mut Room) -> Option<u64> {
     let input = &task.input;
     Some(match task.work {
-        Work::Build => side.build(input),
-        Work::Find => side.find_all(&input.pairs),
-        Work::Walk => side.walk_all(&mut room.items),
-        Work::Sum => side.sum_all(),
-        Work::AllEdges => side.remove_edges(&input.all_out),
-        Work::HubEdges => side.remove_edges(&input.hub_out),
+        Work::Build => side.add_many(input),
+        Work::Find => side.find_many(&input.pairs),
+        Work::Walk => side.walk_many(&mut room.items),
+        Work::AllEdges => side.remove_many(&input.all_out),
+        Work::HubEdges => side.remove_many(&input.hub_out),
+        Work::BuildByCalls => side.build(input),
+        Work::FindByCalls => side.find_all(&input.pairs),
+        Work::WalkByCalls => side.walk_all(&mut room.items),
+        Work::SumByCalls => side.sum_all(),
+        Work::AllEdgesByCalls => side.remove_edges(&input.all_out),
+        Work::HubEdgesByCalls => side.remove_edges(&input.hub_out),
         Work::StripHubs => side.strip_hubs(),
         Work::Nodes => side.remove_nodes(&input.nodes_out, &mut room.items),
         Work::ImageWrite => side.image_write(&mut room.image)? as u64,

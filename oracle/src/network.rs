@@ -164,12 +164,12 @@ impl Network {
         Ok(Answer::Sum(weights.sum()))
     }
 
-    /// The network is sound after every command, so the check reads each edge row once
-    /// in either direction.
+    /// graph.rs has no check: its lists are followed to see that every edge stands once in
+    /// either direction.
     fn check(&self) -> Answer {
-        Answer::Checked {
-            rows: 2 * self.graph.edge_count(),
-        }
+        let rows = rows::check(&self.graph);
+        assert_eq!(rows, 2 * self.graph.edge_count(), "a list without its edge");
+        Answer::Checked { rows }
     }
 
     /// The row for one more edge is asked for before its nodes.

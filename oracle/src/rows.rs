@@ -42,6 +42,21 @@ pub fn remove_node(graph: &Graph, a: NodeIndex) -> usize {
     rows
 }
 
+/// Rows read by the check: those of all lists, followed by their links. Every edge must stand in the
+/// list of its own end.
+pub fn check(graph: &Graph) -> usize {
+    let mut rows = 0;
+    for direction in EdgeDirection::ALL {
+        for node in (0..graph.node_count() as u32).map(NodeIndex) {
+            for edge in list(graph, node, direction) {
+                assert_eq!(end(graph, edge, direction), node, "an edge out of place");
+                rows += 1;
+            }
+        }
+    }
+    rows
+}
+
 /// The last edge row, the one that moves when another is taken out.
 pub fn last_edge(graph: &Graph) -> EdgeIndex {
     EdgeIndex(graph.edge_count() as u32 - 1)
@@ -54,12 +69,16 @@ fn list_of(
     e: EdgeIndex,
     direction: EdgeDirection,
 ) -> impl Iterator<Item = EdgeIndex> {
+    list(graph, end(graph, e, direction), direction)
+}
+
+/// The end of an edge in whose list of `direction` it is.
+fn end(graph: &Graph, e: EdgeIndex, direction: EdgeDirection) -> NodeIndex {
     let (source, target) = graph.edge_endpoints(e).expect("the edge is there");
-    let node = match direction {
+    match direction {
         EdgeDirection::Outgoing => source,
         EdgeDirection::Incoming => target,
-    };
-    list(graph, node, direction)
+    }
 }
 
 /// The edges of a node's list, head first.

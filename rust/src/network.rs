@@ -133,6 +133,11 @@ impl Network {
         &self.0
     }
 
+    /// The tables, given back.
+    pub fn into_tables(self) -> Tables {
+        self.0
+    }
+
     /// How many nodes there are.
     pub fn node_count(&self) -> usize {
         self.0.n as usize
