@@ -1,6 +1,6 @@
 -- What `step` is at each letter, `of-N` to `of-Z`, and at any other, `of-none`. Assumes nothing.
 use Prim.Native.Nat.{ℕ}
-use mathlib.Core.Path.{_≡_, refl, ap, _∙_}
+use mathlib.Core.Path.{_≡_, ap}
 use mathlib.Core.List.{List}
 use borrow.Author.Tests.{ne-eqb}
 use Rattle.index.specs.declared.Refusal.the-variants.{NotCommand}
