@@ -15,8 +15,8 @@ const NODES: usize = 128;
 /// What scripts are made of: all commands but the clears.
 pub const ALL: &[u8] = b"EEEEEEEEEEEEUUFFFFFFFFXXXXXXAAAABBNDWGMS";
 
-/// The oracle answers S without a check, and works out the rows of X and D aside from graph.rs: on
-/// the other commands both sides do the same.
+/// The oracle does not check for D, and works out the rows of X and D aside from graph.rs: without
+/// these and the check of S both sides do the same.
 pub const ALIKE: &[u8] = b"EEEEEEEEEEEEUUFFFFFFFFFFFFFFAAAABBNFWGMW";
 
 /// Scripts as long as can be, of these letters, whose answers all fit.
