@@ -438,3 +438,13 @@ fn a_hub_is_walked_and_removed() {
     assert_eq!(given, expected);
     pair.same_rows();
 }
+
+/// A network is its tables and nothing besides: taken out and put back they make the same network.
+#[test]
+fn tables_are_given_back() {
+    let mut pair = Pair::new(1);
+    pair.add_node();
+    let tables = pair.ours.clone().into_tables();
+    assert_eq!(&tables, pair.ours.tables());
+    assert_eq!(Network::from_tables(tables), pair.ours);
+}

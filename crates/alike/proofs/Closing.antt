@@ -23,6 +23,7 @@ use Rattle.sound.specs.Sound.{Sound, lists}
 use Rattle.sound.proofs.Same.{members}
 use Rattle.sound.proofs.Exactly.{small, lists-are, sound-accepted}
 use Rattle.sound.proofs.Kept.{fitOf, other-cell}
+use Rattle.removal.specs.Removal.{weightTold}
 use Rattle.removal.specs.Lists.{renamed}
 use Rattle.stripping.specs.Heads.{stripped}
 use Rattle.stripping.proofs.Stripping.{lessBoth, strip-fits, strip-sound, strip-nodes, strip-totals, bare-lists, given-are}
@@ -32,7 +33,7 @@ use Rattle.dropping.proofs.Dropping.{drop-totals}
 use Rattle.closing.specs.Closing.{closedIfRoom, removeNode}
 use Rattle.original.specs.Std.{Run, returns, _>>=_, onOption, get, «swap_remove», _!_, asU32}
 use Rattle.original.specs.Rust.{Node, Graph, graph, forAll, renumber, «remove_node_with»}
-use Rattle.alike.specs.Same.{nodeAt, edgeAt, rowsBelow, rowsOf, optionTold, weightTold, Ends}
+use Rattle.alike.specs.Same.{nodeAt, edgeAt, rowsBelow, rowsOf, optionTold, Ends}
 use Rattle.alike.proofs.Vectors.{length-rows, got, got-past, swapped}
 use Rattle.alike.proofs.Cells.{node-count, edge-count, as-u32, node-is, copied}
 use Rattle.alike.proofs.Emptying.{both-lists}

@@ -27,7 +27,7 @@ use Rattle.sound.proofs.Exactly.{small}
 use Rattle.sound.proofs.Kept.{fitOf}
 use Rattle.links.specs.declared.Search.the-variants.{At}
 use Rattle.links.specs.Links.{seek, searched, led}
-use Rattle.removal.specs.Removal.{Gone, bypassed, lastOut, lastInto, takenOut, removeEdge}
+use Rattle.removal.specs.Removal.{Gone, weightTold, bypassed, lastOut, lastInto, takenOut, removeEdge}
 use Rattle.removal.specs.Lists.{pos, renamed, left}
 use Rattle.links.specs.Parts.{Place}
 use Rattle.removal.proofs.Stores.{row-other, Remains, led-link, led-else, last-into}
@@ -38,7 +38,7 @@ use Rattle.links.proofs.Hits.{place-kept}
 use Rattle.removal.proofs.Members.{pos-below}
 use Rattle.original.specs.Std.{returns, _!_}
 use Rattle.original.specs.Rust.{Edge, graph, «change_edge_links», «remove_edge», «remove_edge_adjust_indices»}
-use Rattle.alike.specs.Same.{nodeAt, edgeAt, rowsBelow, rowsOf, optionTold, weightTold, Ends}
+use Rattle.alike.specs.Same.{nodeAt, edgeAt, rowsBelow, rowsOf, optionTold, Ends}
 use Rattle.alike.proofs.Vectors.{length-rows, got, got-past, alike, swapped}
 use Rattle.alike.proofs.Cells.{edge-got, edge-got-past, as-u32, edge-is, copied}
 use Rattle.alike.proofs.Leading.{both-ways}

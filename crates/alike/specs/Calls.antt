@@ -20,12 +20,12 @@ use Rattle.walks.specs.Walks.{neighbors, edgeWeights, edgesBetween, edgesMut, e
 use Rattle.find.specs.Find.{findEdge, containsEdge, updateEdge}
 use Rattle.walker.specs.declared.Walker.{Walker}
 use Rattle.walker.specs.Steps.{begin, step}
-use Rattle.removal.specs.Removal.{removeEdge}
+use Rattle.removal.specs.Removal.{weightTold, removeEdge}
 use Rattle.closing.specs.Closing.{removeNode}
 use Rattle.original.specs.Std.{endless, onOption}
 use Rattle.original.specs.Rust as Rust
 use Rattle.original.specs.Iterators as Iterators
-use Rattle.alike.specs.Same.{rowsOf, optionTold, runTold, valueless, seen, Ends, referred, weightTold, walkerAt, iteratorAt, stepTold}
+use Rattle.alike.specs.Same.{rowsOf, optionTold, runTold, valueless, seen, Ends, referred, walkerAt, iteratorAt, stepTold}
 
 pub record AsRust (g : Net) : Type 0 where
   pub node-count : Rust.«node_count» (rowsOf g) ≡ g .n

@@ -69,10 +69,6 @@ referred Near edge = edge .node ! 0
 referred Far edge = edge .node ! 1
 referred Weight edge = edge .weight
 
--- what is told of a removal's weight alone
-abbrev pub weightTold : {A B C : Type 0} → Told (A × B × C) → Told A
-weightTold t = record { number = t .number; values = t .values .0 }
-
 -- our walker, where the iterator of `neighbors` stands, and that iterator, where our walker stands
 abbrev pub walkerAt : Around → Walker
 walkerAt it = walkerOf (it .«skip_start») (it .next ! 0) (it .next ! 1)

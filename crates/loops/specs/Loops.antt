@@ -9,7 +9,7 @@ use Rattle.tables.specs.Answers.{Told, Out, out}
 use Rattle.rows.specs.Calls.{addNode, addEdge}
 use Rattle.find.specs.Find.{findEdge}
 use Rattle.walks.specs.Walks.{neighbors}
-use Rattle.removal.specs.Removal.{Gone, removeEdge}
+use Rattle.removal.specs.Removal.{Gone, weightTold, removeEdge}
 
 -- what the calls told, added up, and what the last one left
 pub record Sums (S : Type 0) : Type 0 where
@@ -56,7 +56,7 @@ findsEdge g pairs i s = out (findEdge g (getD pairs (2 * i) 0) (getD pairs (2 * 
 abbrev pub findEdges : Net → List ℕ → ℕ
 findEdges g pairs = calls (findsEdge g pairs) tt (length pairs / 2) .sum
 
--- the neighbours of nodes 0, .., n - 1, each into what the table held; of an answer the items given count, added up
+-- of a walk's answer the items given count, added up
 abbrev pub total : List ℕ → ℕ
 total [] = 0
 total (x ∷ xs) = x + total xs
@@ -67,6 +67,7 @@ totalled t items = record { number = t .number; values = total (take (t .values)
 abbrev pub itemsOf : Out ℕ (List ℕ) → Out ℕ (List ℕ)
 itemsOf o = out (totalled (o .answer) (o .after)) (o .after)
 
+-- the neighbours of nodes 0, .., n - 1, one after the other into the same table
 abbrev pub givesNeighbors : Net → ℕ → List ℕ → Out ℕ (List ℕ)
 givesNeighbors g a items = itemsOf (neighbors g a items)
 
@@ -74,11 +75,8 @@ abbrev pub neighborsOfAll : Net → List ℕ → Sums (List ℕ)
 neighborsOfAll g items = calls (givesNeighbors g) items (g .n)
 
 -- an edge out for each number; of an answer the edge's weight counts
-abbrev pub weighed : Told (ℕ × ℕ × ℕ) → Told ℕ
-weighed t = record { number = t .number; values = t .values .0 }
-
 abbrev pub weightOf : Gone → Out ℕ Net
-weightOf o = out (weighed (o .answer)) (o .after)
+weightOf o = out (weightTold (o .answer)) (o .after)
 
 abbrev pub takesEdge : List ℕ → ℕ → Net → Out ℕ Net
 takesEdge numbers i g = weightOf (removeEdge g (getD numbers i 0))

@@ -1,10 +1,10 @@
 // What one answer adds to a loop's sum: its number, which is 0 where it is served, and its value.
 ghost use mathlib.Core.Path.{_≡_};
+ghost use Prim.Native.Nat.{_≤_};
 ghost use lib.ListN.{length};
 ghost use Rattle.tables.specs.Answers.{toldNode, toldEdge, toldItems};
-ghost use Rattle.removal.specs.Removal.{toldEdgeRemoved};
-ghost use Rattle.loops.specs.Loops.{adds, in64, total, totalled, weighed};
-ghost use Rattle.loops.specs.Parts.{Given};
+ghost use Rattle.removal.specs.Removal.{toldEdgeRemoved, weightTold};
+ghost use Rattle.loops.specs.Loops.{adds, in64, total, totalled};
 use removal::EdgeRemoved;
 use std::num::wrapping_add_u64;
 use tables::EdgeAnswer;
@@ -31,7 +31,7 @@ pub fn edge_adds(answer: EdgeAnswer) -> u64
 
 // Of a removal the edge's weight counts.
 pub fn removal_adds(answer: EdgeRemoved) -> u64
-    ensures { λ r. ⌜ r ≡ adds (weighed (toldEdgeRemoved answer)) ⌝ }
+    ensures { λ r. ⌜ r ≡ adds (weightTold (toldEdgeRemoved answer)) ⌝ }
 {
     match answer {
         EdgeRemoved::Edge(w, _, _) => w as u64,
@@ -41,7 +41,7 @@ pub fn removal_adds(answer: EdgeRemoved) -> u64
 
 // Of a walk the items count that it gave.
 pub fn items_add(answer: Items, items: &[u32]) -> u64
-    requires { ⌜ Given answer (length (now items)) ⌝ }
+    requires { ⌜ toldItems answer .values ≤ length (now items) ⌝ }
     ensures { λ r. ⌜ r ≡ in64 (adds (totalled (toldItems answer) (now (items .entry)))) ⌝ }
 {
     match answer {

@@ -25,6 +25,10 @@ abbrev pub toldEdgeRemoved : EdgeRemoved → Told (ℕ × ℕ × ℕ)
 toldEdgeRemoved (EdgeRemoved·.Edge w moved rows) = done (w, moved .0, rows)
 toldEdgeRemoved (EdgeRemoved·.Refused why) = refused why (0, 0, 0)
 
+-- what is told of a removal's weight alone, an edge's or a node's
+abbrev pub weightTold : {A B C : Type 0} → Told (A × B × C) → Told A
+weightTold t = record { number = t .number; values = t .values .0 }
+
 -- what the searches for an edge of a network come to
 abbrev pub onPlace : {A : Type 0} → Located → (Spot → Spot → ℕ → A) → A → A
 onPlace (Located·.At s t rows) found lost = found s t rows

@@ -22,7 +22,7 @@ unfolding calls
 loop-holds c = (omega arith, refl, refl)
 
 items-add-requires : tie.Need-items-add-requires Inv-loop μ-loop
-items-add-requires c κs = record { held = neighbors-given _ _ _ (c .before .before .before .neighbors .ensures) .few }
+items-add-requires c κs = neighbors-given _ _ _ (c .before .before .before .neighbors .ensures) .few
 
 loop-again : tie.Need-loop-again Inv-loop μ-loop
 loop-again c =

@@ -9,7 +9,7 @@ use Rattle.loops.proofs.parts.items_add.Statement.{statement}
 use Rattle.loops.proofs.parts.items_add.Tie as tie
 
 slice-aggregate-total : tie.Need-slice-aggregate-total
-slice-aggregate-total c = sym (length-take-le _ _ (rw (c .before .before .answer .given .1) at (c .before .before .before .before .before .pre .held)))
+slice-aggregate-total c = sym (length-take-le _ _ (rw (c .before .before .answer .given .1) at (c .before .before .before .before .before .pre)))
 
 returns : tie.Need-returns
 returns c = rw (c .before .before .before .answer .given .1) (c .total .ensures ∙ ap in64 (sym (zero-add _)))
