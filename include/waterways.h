@@ -36,7 +36,16 @@ enum net_answer {
     NET_SHORT = 7,       /* the output holds fewer items than the answer needs */
     NET_NOT_IMAGE = 8,   /* an image that is too short, has a wrong mark or a wrong length */
     NET_VERSION = 9,     /* an image of an unknown version */
-    NET_NOT_COMMAND = 10 /* a script line that is no command */
+    NET_NOT_COMMAND = 10, /* a script line that is no command */
+    /* No call gives these yet. */
+    NET_TAKEN = 11,      /* the directory's entry of that register number names a row */
+    NET_BEYOND = 12,     /* a register number that is not below the directory's length */
+    NET_NOT_BARE = 13,   /* a node to be dropped that still has edges */
+    NET_NO_RANKING = 14, /* lists that no ranking of the edges gives */
+    NET_OUTSIDE = 15,    /* outside the planning profile */
+    NET_TOO_DEEP = 16,   /* a walk that would stand 65 nodes deep */
+    NET_FELL = 17,       /* a counter lower than the last */
+    NET_OVERFLOW = 18    /* a weight that would leave 32 bits */
 };
 
 /* No row: the end of a list, and what a vacant row holds in its links and ends. Its weight is 0. */

@@ -24,10 +24,28 @@ pub enum Refusal {
     NotImage = 8,
     /// An image of an unknown version.
     Version = 9,
+    /// A script line that is no command.
+    NotCommand = 10,
+    /// The directory's entry of that register number names a row; no call gives this or those below yet.
+    Taken = 11,
+    /// A register number that is not below the directory's length.
+    Beyond = 12,
+    /// A node to be dropped that still has edges.
+    NotBare = 13,
+    /// Lists that no ranking of the edges gives.
+    NoRanking = 14,
+    /// Outside the planning profile.
+    Outside = 15,
+    /// A walk that would stand 65 nodes deep.
+    TooDeep = 16,
+    /// A counter lower than the last.
+    Fell = 17,
+    /// A weight that would leave 32 bits.
+    Overflow = 18,
 }
 
 impl Refusal {
-    const ALL: [Refusal; 9] = [
+    const ALL: [Refusal; 18] = [
         Refusal::Tables,
         Refusal::Full,
         Refusal::NoNode,
@@ -37,6 +55,15 @@ impl Refusal {
         Refusal::Short,
         Refusal::NotImage,
         Refusal::Version,
+        Refusal::NotCommand,
+        Refusal::Taken,
+        Refusal::Beyond,
+        Refusal::NotBare,
+        Refusal::NoRanking,
+        Refusal::Outside,
+        Refusal::TooDeep,
+        Refusal::Fell,
+        Refusal::Overflow,
     ];
 
     /// The order's number.
@@ -65,6 +92,15 @@ impl fmt::Display for Refusal {
             Refusal::Short => "the output is too short",
             Refusal::NotImage => "no image of a network",
             Refusal::Version => "an image of an unknown version",
+            Refusal::NotCommand => "a line that is no command",
+            Refusal::Taken => "the register number is taken",
+            Refusal::Beyond => "the register number is beyond the directory",
+            Refusal::NotBare => "the node still has edges",
+            Refusal::NoRanking => "no ranking gives these lists",
+            Refusal::Outside => "outside the planning profile",
+            Refusal::TooDeep => "more than 64 nodes deep",
+            Refusal::Fell => "the counter fell",
+            Refusal::Overflow => "the weight would leave 32 bits",
         };
         write!(f, "refused {}: {why}", self.number())
     }

@@ -4,10 +4,13 @@ use mathlib.Core.Path.{_≡_, sym, ap, ap₂, _∙_}
 use mathlib.Core.Bool.{true, false}
 use mathlib.Core.List.{List, [], map}
 use native.Mathlib.Omega.{arith}
-use borrow.Author.Tests.{lt-ltb, le-ltb, le-leb, lt-leb}
+use borrow.Author.Tests.{le-leb, lt-leb}
 use lib.IntN.{ℤ, pos}
 use lib.ListN.{length, getD, set, length-append, length-map}
-use Rattle.index.specs.declared.Refusal.the-variants.{NoNode, Broken, Short}
+use Rattle.index.specs.declared.NodeIndex.{NodeIndex}
+use Rattle.index.specs.declared.EdgeDirection.{EdgeDirection}
+use Rattle.index.specs.declared.Refusal.{Refusal}
+use Rattle.index.specs.declared.Refusal.the-variants.{Short}
 use Rattle.tables.specs.Net.{Net, net, fits, nodeCell}
 use Rattle.tables.specs.Rows.{nodeRow, vacantNode, headsWith, withNode}
 use Rattle.tables.specs.Answers.{out, done, refused, onto}
@@ -21,14 +24,15 @@ use Rattle.legs.specs.declared.parts.Settled.{Settled}
 use Rattle.legs.specs.declared.parts.Settled.the-variants.{Rows}
 use Rattle.legs.specs.declared.parts.Settled.the-variants as Settled·
 use Rattle.legs.specs.Legs.{legAt, settled}
+use Rattle.sound.specs.declared.Checked.{Checked}
 use Rattle.sound.specs.declared.Checked.the-variants as Checked·
 use Rattle.sound.specs.Sound.{lists}
-use Rattle.sound.specs.Check.{checked, accepted}
+use Rattle.sound.specs.Check.{checked, accepted, isSound}
 use Rattle.sound.proofs.Exactly.{small, accepted-sound}
 use Rattle.sound.proofs.Kept.{fitOf}
 use Rattle.stripping.specs.Heads.{strip, stripped}
 use Rattle.dropping.specs.Drop.{ended, dropped}
-use Rattle.closing.specs.Closing.{Closed, closed, closedIfRoom, removeNode}
+use Rattle.closing.specs.Closing.{Closed, closed, closedIfRoom}
 use Rattle.closing.specs.Parts.{Closable}
 use Rattle.stripping.proofs.Stripping.{given-are}
 
@@ -98,17 +102,14 @@ closable-so g a rows c l =
     let S = accepted-sound g rows c in
     record { fit = S .0; lists = lists g; sound = S .1; node = l }
 
--- a node that is not there is refused
-pub no-node : (g : Net) (a : ℕ) (I : List ℕ) → fits g ≡ true → g .n ≤ a → out (refused NoNode (pos 0, 0, 0)) (g, I) ≡ removeNode g a I
-unfolding removeNode
-no-node g a I f l = rw (f, le-ltb a (g .n) l)
+-- what the check's answer says of the test for 6
+pub is-sound : (g : Net) (v : Checked) (rows : ℕ) → v ≡ checked g → v ≡ Checked·.Accepted rows → isSound g ≡ true
+is-sound g v rows p q = ap accepted (sym p ∙ q)
 
--- past the guards
-module _ (g : Net) (a : ℕ) (I : List ℕ) (f : fits g ≡ true) (l : a < g .n) where
-  pub not-sound : accepted (checked g) ≡ false → out (refused Broken (pos 0, 0, 0)) (g, I) ≡ removeNode g a I
-  unfolding removeNode
-  not-sound z = rw (f, lt-ltb a (g .n) l, z)
+pub at-fault : (g : Net) (v : Checked) (d : EdgeDirection) (a : NodeIndex) → v ≡ checked g → v ≡ Checked·.Fault d a → isSound g ≡ false
+at-fault g v d a p q = ap accepted (sym p ∙ q)
 
-  pub is-sound : accepted (checked g) ≡ true → (o : Closed) → o ≡ closedIfRoom g a I → o ≡ removeNode g a I
-  unfolding removeNode
-  is-sound z o is = rw (f, lt-ltb a (g .n) l, z) is
+pub not-read : (g : Net) (v : Checked) (why : Refusal) → v ≡ checked g → v ≡ Checked·.Refused why → isSound g ≡ false
+not-read g v why p q = ap accepted (sym p ∙ q)
+
+pub ruleset decided = (is-sound, at-fault, not-read)

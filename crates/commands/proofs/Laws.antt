@@ -6,6 +6,7 @@ use mir.Val.{toZ}
 use mir.Facts.{toZ-pos}
 use Rattle.index.specs.declared.Refusal.{Refusal}
 use Rattle.index.specs.declared.Refusal.the-variants.{Tables, Full, NoNode, NoEdge, Nothing, Broken, Short, NotImage, Version, NotCommand}
+use Rattle.index.specs.declared.Refusal.the-variants.{Taken, Beyond, NotBare, NoRanking, Outside, TooDeep, Fell, Overflow}
 use Rattle.index.specs.Refusals.{refusalNo}
 use Rattle.tables.specs.Answers.{Told, Out, out, refused}
 use Rattle.reply.specs.declared.Reply.{Reply}
@@ -25,6 +26,14 @@ module _ {A : Type 0} (letter : ℕ) (served : ℕ → A → Reply) where
   refused-reply zeros NotImage = refl
   refused-reply zeros Version = refl
   refused-reply zeros NotCommand = refl
+  refused-reply zeros Taken = refl
+  refused-reply zeros Beyond = refl
+  refused-reply zeros NotBare = refl
+  refused-reply zeros NoRanking = refl
+  refused-reply zeros Outside = refl
+  refused-reply zeros TooDeep = refl
+  refused-reply zeros Fell = refl
+  refused-reply zeros Overflow = refl
 
   pub tells-so : {r : Reply} {told by-call : Told A} → r ≡ replyTo letter served told → told ≡ by-call → r ≡ replyTo letter served by-call
   tells-so e q = e ∙ ap (replyTo letter served) q

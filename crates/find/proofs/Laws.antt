@@ -102,8 +102,3 @@ module _ (g : Net) (a b : ℕ) (f : fits g ≡ true) (h : a < g .n) {s : Sought}
   pub contains-told : on s (λ x. done 1) (done 0) (refused Broken 0) ≡ containsEdge g a b
   unfolding containsEdge
   contains-told = rw (f, lt-ltb _ _ h, e)
-
-  pub update-told : (w : ℕ)
-      → on s (λ x. out (done x) (withEdges g (set (g .registers) x w) (g .links) (g .ends))) (addEdge g a b w) (out (refused Broken 0) g) ≡ updateEdge g a b w
-  unfolding updateEdge
-  update-told w = rw (f, lt-ltb _ _ h, e)

@@ -18,18 +18,7 @@ use Rattle.sound.specs.Check.{isSound}
 use Rattle.image.specs.Calls.{imageRead, imageWrite}
 use Rattle.loading.specs.Loading.{readOne}
 
--- the answers of a read
-module _ (g : Net) (bytes : List ℕ) where
-  pub not-lent : fits g ≡ false → out (refused Tables tt) g ≡ imageRead g bytes
-  unfolding imageRead
-  not-lent f = rw f
-
-  pub read-on : {o : Out Unit Net} {v : ℕ} → fits g ≡ true → headBytes ≤ length bytes → marked bytes ≡ true → v ≡ versionIn bytes → v ≡ version
-      → o ≡ readOne g bytes → o ≡ imageRead g bytes
-  unfolding imageRead
-  read-on f h k p q o = rw (f, le-leb _ _ h, k, ← p, eq-eqb _ _ q) o
-
--- and of a write
+-- the answers of a write
 module _ (g : Net) (bytes : List ℕ) {k : ℕ} (f : fits g ≡ true) (s : isSound g ≡ true) (p : k ≡ imageLength (g .n) (g .m)) where
   pub write-short : length bytes < k → out (refused Short 0) bytes ≡ imageWrite g bytes
   unfolding imageWrite

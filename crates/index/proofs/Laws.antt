@@ -8,6 +8,7 @@ use Rattle.index.specs.declared.EdgeDirection.{EdgeDirection}
 use Rattle.index.specs.declared.EdgeDirection.the-variants.{Outgoing, Incoming}
 use Rattle.index.specs.declared.Refusal.{Refusal}
 use Rattle.index.specs.declared.Refusal.the-variants.{Tables, Full, NoNode, NoEdge, Nothing, Broken, Short, NotImage, Version, NotCommand}
+use Rattle.index.specs.declared.Refusal.the-variants.{Taken, Beyond, NotBare, NoRanking, Outside, TooDeep, Fell, Overflow}
 use Rattle.index.specs.Index.{numberOf, directionOf}
 use Rattle.index.specs.Refusals.{refusalNo}
 
@@ -22,8 +23,9 @@ direction-number Incoming = refl
 -- what a number tells: 0 the one thing, each other number the refusal that has it
 abbrev pub untold : {A : Type 0} → A → (Refusal → A) → ℕ → A
 untold served refused x =
-    let refusals = map refused (Tables ∷ Full ∷ NoNode ∷ NoEdge ∷ Nothing ∷ Broken ∷ Short ∷ NotImage ∷ Version ∷ NotCommand ∷ []) in
-    getD (served ∷ refusals) x served
+    let later = Taken ∷ Beyond ∷ NotBare ∷ NoRanking ∷ Outside ∷ TooDeep ∷ Fell ∷ Overflow ∷ [] in
+    let refusals = Tables ∷ Full ∷ NoNode ∷ NoEdge ∷ Nothing ∷ Broken ∷ Short ∷ NotImage ∷ Version ∷ NotCommand ∷ later in
+    getD (served ∷ map refused refusals) x served
 
 -- so no two refusals have the same number, and none has 0
 pub untold-refusal : {A : Type 0} (served : A) (refused : Refusal → A) (why : Refusal) → untold served refused (refusalNo why) ≡ refused why
@@ -37,6 +39,14 @@ untold-refusal served refused Short = refl
 untold-refusal served refused NotImage = refl
 untold-refusal served refused Version = refl
 untold-refusal served refused NotCommand = refl
+untold-refusal served refused Taken = refl
+untold-refusal served refused Beyond = refl
+untold-refusal served refused NotBare = refl
+untold-refusal served refused NoRanking = refl
+untold-refusal served refused Outside = refl
+untold-refusal served refused TooDeep = refl
+untold-refusal served refused Fell = refl
+untold-refusal served refused Overflow = refl
 
 pub not-zero : (why : Refusal) → refusalNo why ≡ 0 → ⊥
 not-zero why h =

@@ -2,6 +2,7 @@
 use Prim.Native.Nat.{ℕ}
 use Rattle.index.specs.declared.Refusal.{Refusal}
 use Rattle.index.specs.declared.Refusal.the-variants.{Tables, Full, NoNode, NoEdge, Nothing, Broken, Short, NotImage, Version, NotCommand}
+use Rattle.index.specs.declared.Refusal.the-variants.{Taken, Beyond, NotBare, NoRanking, Outside, TooDeep, Fell, Overflow}
 
 abbrev pub refusalNo : Refusal → ℕ
 -- rows above the limit, n or m above the rows lent, or tables that disagree in rows; a script too long
@@ -24,3 +25,19 @@ refusalNo NotImage = 8
 refusalNo Version = 9
 -- a script line that is no command
 refusalNo NotCommand = 10
+-- the directory's entry of that register number names a row already; no call gives this or those below yet
+refusalNo Taken = 11
+-- a register number that is not below the directory's length
+refusalNo Beyond = 12
+-- a node to be dropped that still has edges
+refusalNo NotBare = 13
+-- lists that no ranking of the edges gives
+refusalNo NoRanking = 14
+-- a self-loop, a second waterway between two nodes or a ninth edge of one, where the profile allows none
+refusalNo Outside = 15
+-- a walk that would stand 65 nodes deep
+refusalNo TooDeep = 16
+-- a counter lower than the last
+refusalNo Fell = 17
+-- a weight that would leave 32 bits
+refusalNo Overflow = 18

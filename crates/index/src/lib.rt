@@ -74,7 +74,7 @@ impl EdgeDirection {
     }
 }
 
-// Why a call changes nothing. `number` has the answer number of each.
+// Why a call changes nothing. `number` has the answer number of each; those from `Taken` on no call gives yet.
 pub enum Refusal {
     Tables,
     Full,
@@ -86,6 +86,14 @@ pub enum Refusal {
     NotImage,
     Version,
     NotCommand,
+    Taken,
+    Beyond,
+    NotBare,
+    NoRanking,
+    Outside,
+    TooDeep,
+    Fell,
+    Overflow,
 }
 
 impl Refusal {
@@ -103,6 +111,14 @@ impl Refusal {
             Refusal::NotImage => 8,
             Refusal::Version => 9,
             Refusal::NotCommand => 10,
+            Refusal::Taken => 11,
+            Refusal::Beyond => 12,
+            Refusal::NotBare => 13,
+            Refusal::NoRanking => 14,
+            Refusal::Outside => 15,
+            Refusal::TooDeep => 16,
+            Refusal::Fell => 17,
+            Refusal::Overflow => 18,
         }
     }
 }

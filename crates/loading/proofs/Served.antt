@@ -1,16 +1,16 @@
 -- What the parts leave is what the definitions say, over plain columns. Assumes nothing.
 use Prim.{Unit, tt}
-use Prim.Native.Nat.{ℕ, _*_, _≤_}
+use Prim.Native.Nat.{ℕ, _*_}
 use mathlib.Core.Path.{_≡_, ap, _∙_}
-use mathlib.Core.Bool.{true, false}
+use mathlib.Core.Bool.{true, false, _&&_}
 use mathlib.Core.List.{List}
-use borrow.Author.Tests.{le-leb, eq-eqb}
+use lib.Dec.{leb, eqb}
 use lib.IntN.{ℤ, pos}
 use lib.ListN.{length}
-use Rattle.index.specs.declared.Refusal.the-variants.{Broken}
+use Rattle.index.specs.declared.Refusal.the-variants.{Full, NotImage, Broken}
 use Rattle.index.specs.Index.{END}
 use Rattle.tables.specs.Net.{Net, net, withCounts, nodeCells, edgeCells}
-use Rattle.tables.specs.Answers.{Out, out, done, refused}
+use Rattle.tables.specs.Answers.{Out, out, done, refused, unless}
 use Rattle.tables.specs.Rows.{filled, vacantNodes, vacantEdges}
 use Rattle.layout.specs.Layout.{imageLength, nodesIn, edgesIn}
 use Rattle.imagerows.specs.Image.{loaded}
@@ -35,11 +35,17 @@ pub sound-kept : (g : Net) → isSound g ≡ true → out (done tt) g ≡ settle
 unfolding settled
 sound-kept g f = rw f
 
--- a read that comes to the rows
-module _ (g : Net) (bytes : List ℕ) where
-  pub read-settled : {n m length′ : ℕ} {h : Net} {o : Out Unit Net} → n ≡ nodesIn bytes → m ≡ edgesIn bytes
-      → n ≤ length (g .weights) → m ≤ length (g .registers) → length′ ≡ imageLength n m → length bytes ≡ length′
-      → h ≡ loaded (withCounts g n m) bytes n m → o ≡ settled h → o ≡ readOne g bytes
-  unfolding readOne
-  read-settled {n} {m} p q h k i j l o =
-      rw (← p, ← q, le-leb _ _ h, le-leb _ _ k, eq-eqb _ _ (j ∙ i)) (o ∙ ap settled (l ∙ counts-free g bytes n m n m))
+-- a read by the counts and the length that the code has read
+abbrev pub readBy : Net → List ℕ → (n m long : ℕ) → Out Unit Net
+readBy g bytes n m long =
+    unless (leb n (length (g .weights)) && leb m (length (g .registers))) (out (refused Full tt) g)
+    (unless (eqb (length bytes) long) (out (refused NotImage tt) g)
+    (settled (loaded g bytes n m)))
+
+pub by-counts : (g : Net) (bytes : List ℕ) {n m long : ℕ} → n ≡ nodesIn bytes → m ≡ edgesIn bytes → long ≡ imageLength n m → readBy g bytes n m long ≡ readOne g bytes
+unfolding readOne
+by-counts g bytes p q r = rw (r, p, q)
+
+-- what was loaded beside the counts is settled
+pub rows-settled : (g : Net) (bytes : List ℕ) (n m : ℕ) {h : Net} {o : Out Unit Net} → h ≡ loaded (withCounts g n m) bytes n m → o ≡ settled h → o ≡ settled (loaded g bytes n m)
+rows-settled g bytes n m l o = o ∙ ap settled (l ∙ counts-free g bytes n m n m)

@@ -1,16 +1,15 @@
 -- The ways in which the removal ends, in plain columns: what the code leaves is what the definition says. Assumes nothing.
 use Prim.Native.Nat.{ℕ, _+_, _-_, _≤_, _<_}
 use mathlib.Core.Path.{_≡_, refl, sym, ap, _∙_}
-use mathlib.Core.Bool.{true}
 use mathlib.Core.List.{List, []}
 use native.Mathlib.Omega.{arith}
-use borrow.Author.Tests.{eq-eqb, ne-eqb, lt-ltb, le-ltb}
+use borrow.Author.Tests.{eq-eqb, ne-eqb}
 use lib.IntN.{ℤ}
 use lib.ListN.{getD, set}
 use lib.Seq.{set-comm}
-use Rattle.index.specs.declared.Refusal.the-variants.{NoEdge, Broken}
+use Rattle.index.specs.declared.Refusal.the-variants.{Broken}
 use Rattle.index.specs.Index.{END}
-use Rattle.tables.specs.Net.{Net, net, fits, nodeCell, edgeCell}
+use Rattle.tables.specs.Net.{Net, net, nodeCell, edgeCell}
 use Rattle.tables.specs.Rows.{edgeRow, vacantEdge, linksWith, endsWith, withEdge}
 use Rattle.tables.specs.Answers.{out, done, refused}
 use Rattle.lists.specs.declared.Spot.{Spot}
@@ -19,7 +18,7 @@ use Rattle.lists.specs.Walk.{cell, linkIn}
 use Rattle.links.specs.declared.Located.the-variants as Located·
 use Rattle.links.specs.Links.{located, headsAt, linksAt, led}
 use Rattle.links.proofs.Stores.{back}
-use Rattle.removal.specs.Removal.{Gone, bypassed, lastOut, lastInto, lastMoved, gone, takenOut, removeEdge}
+use Rattle.removal.specs.Removal.{Gone, bypassed, lastOut, lastInto, lastMoved, gone, takenOut}
 
 -- the two links of a network led elsewhere, column by column
 led-is : (W : List ℤ) (H H₂ R L L₂ E : List ℕ) (n m : ℕ) (s t : Spot) (v w : ℕ) → H₂ ≡ headsAt 1 t w (headsAt 0 s v H) → L₂ ≡ linksAt 1 t w (linksAt 0 s v L)
@@ -98,13 +97,3 @@ module _ (g : Net) (e : ℕ) where
       → o ≡ gone g e (g .m - 1) s t rows → o ≡ takenOut g e
   unfolding takenOut
   is-found s t rows o z is = rw z is
-
-  -- an edge that is not there is refused
-  pub no-edge : fits g ≡ true → g .m ≤ e → out (refused NoEdge (0, 0, 0)) g ≡ removeEdge g e
-  unfolding removeEdge
-  no-edge f l = rw (f, le-ltb e (g .m) l)
-
-  -- past the guards the call is its part
-  pub past-guards : (o : Gone) → fits g ≡ true → e < g .m → o ≡ takenOut g e → o ≡ removeEdge g e
-  unfolding removeEdge
-  past-guards o f l is = rw (f, lt-ltb e (g .m) l) is

@@ -5,15 +5,17 @@ use mathlib.Core.Path.{_≡_}
 use mathlib.Core.Bool.{true}
 use mathlib.Core.List.{List, _++_}
 use borrow.Author.Tests.{lt-ltb, le-leb}
+use denote.Ref.{now}
 use lib.IntN.{ℤ, pos}
 use lib.ListN.{length, set, take, drop}
 use lib.Seq.{length-take-le}
 use Rattle.tables.specs.declared.row.Node.{Node}
 use Rattle.index.specs.Index.{END}
-use Rattle.tables.specs.Net.{Net, net, fits, nodeCells, edgeCells}
+use Rattle.tables.specs.Net.{Net, Lent, net, fits, nodeCells, edgeCells}
+use Rattle.tables.specs.Parts.{LinksEdge}
 use Rattle.tables.specs.Answers.{out, done}
 use Rattle.tables.specs.Rows.{bare, headsWith, linksWith, endsWith, withNode, withEdge, newEdge, headed, filled, vacantNodes, vacantEdges}
-use Rattle.rows.specs.Calls.{addNode, addEdge, linked, allEdgeWeights, clear, clearEdges}
+use Rattle.rows.specs.Calls.{addNode, linked, allEdgeWeights, clear, clearEdges}
 
 pub node-added : (g : Net) (w : ℤ) {weights : List ℤ} {heads : List ℕ} {row : Node} → fits g ≡ true → g .n < length (g .weights)
     → row ≡ bare w → weights ≡ set (g .weights) (g .n) (row .weight) → heads ≡ headsWith (g .heads) (g .n) row
@@ -21,12 +23,11 @@ pub node-added : (g : Net) (w : ℤ) {weights : List ℤ} {heads : List ℕ} {ro
 unfolding addNode withNode
 node-added g w f l r p q = rw (f, lt-ltb _ _ l, p, q, r)
 
-pub edge-added : (g : Net) (a b w : ℕ) {heads registers links ends : List ℕ} → fits g ≡ true → g .m < length (g .registers) → a < g .n → b < g .n
-    → heads ≡ headed (g .heads) a b (g .m) → registers ≡ set (g .registers) (g .m) w
-    → links ≡ linksWith (g .links) (g .m) (newEdge (g .heads) a b w) → ends ≡ endsWith (g .ends) (g .m) (newEdge (g .heads) a b w)
-    → out (done (g .m)) (net (g .weights) heads registers links ends (g .n) (g .m + 1)) ≡ addEdge g a b w
-unfolding addEdge linked withEdge
-edge-added g a b w f l i j p q r s = rw (f, lt-ltb _ _ l, lt-ltb _ _ i, lt-ltb _ _ j, p, q, r, s)
+pub edge-linked : (weights : List ℤ) (heads registers links ends : Lent ℕ) (n m a b w : ℕ) → LinksEdge heads registers links ends m a b w
+    → out (done m) (net weights (now (heads .exit)) (now (registers .exit)) (now (links .exit)) (now (ends .exit)) n (m + 1))
+    ≡ out (done m) (linked (net weights (now (heads .entry)) (now (registers .entry)) (now (links .entry)) (now (ends .entry)) n m) a b w)
+unfolding linked withEdge
+edge-linked weights heads registers links ends n m a b w q = let r = q .row-is in rw (q .heads-are, r .registers-are, r .links-are, r .ends-are)
 
 pub items-given : (g : Net) (items : List ℕ) {after : List ℕ} → fits g ≡ true → g .m ≤ length (g .registers) → g .m ≤ length items
     → after ≡ take (g .m) (g .registers) ++ drop (g .m) items → out (done (g .m)) after ≡ allEdgeWeights g items

@@ -3,3 +3,4 @@ pub mod Front
 pub mod Told
 pub mod NetworkA
 pub mod Vacant
+pub mod Guards

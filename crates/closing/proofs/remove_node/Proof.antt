@@ -1,36 +1,35 @@
--- `remove_node` meets its contract: each `return` is what the definition gives past the tests that led there. Assumes nothing.
-use mathlib.Core.Path.{sym, ap, _∙_}
-use Rattle.tables.proofs.Laws.{misfit, fitted}
-use Rattle.sound.specs.Check.{accepted}
-use Rattle.closing.specs.Closing.{removeNode}
-use Rattle.closing.proofs.Closes.{closable-so, no-node, not-sound, is-sound}
+-- `remove_node` meets its contract: `guards` finds each test's fact; past the tests the call is its part. Assumes nothing.
+use mathlib.Core.Path.{_≡_, sym, _∙_}
 use borrow.Author.Needs.{needs}
+use denote.Ref.{now}
+use Rattle.tables.specs.Net.{Net, net}
+use Rattle.tables.proofs.Guards.{guards}
+use Rattle.closing.specs.Closing.{Closed, closedIfRoom, removeNode}
+use Rattle.closing.specs.Parts.{Closable}
+use Rattle.closing.proofs.Closes.{closable-so, decided}
 use Rattle.closing.proofs.remove_node.Statement.{statement}
 use Rattle.closing.proofs.remove_node.Tie as tie
 
-returns : tie.Need-returns
+-- the network lent, what the call is to answer, and what its part answers
+abbrev lent : tie.Start → Net
+lent s = net (now (s .args .weights)) (now (s .args .heads)) (now (s .args .registers)) (now (s .args .links)) (now (s .args .ends)) (now (s .args .n)) (now (s .args .m))
+
+abbrev asked : tie.Start → Closed
+asked s = removeNode (lent s) (s .args .a .0) (now (s .args .items))
+
+abbrev served : tie.Start → Closed
+served s = closedIfRoom (lent s) (s .args .a .0) (now (s .args .items))
+
+-- past the tests
+closable : (c : tie.After-enum-told) → let s : tie.Start = search in Closable (lent s) (s .args .a .0)
+closable c = let d : tie.After-check = search in closable-so _ _ _ (sym (d .check .ensures) ∙ c .enum-told .given .1) (search)
+
+past : (c : tie.After-enum-told) → let s : tie.Start = search in served s ≡ asked s
 unfolding removeNode
-returns c = rw (misfit (c .before .fits2 .ensures) (c .if1 .taken))
-
-returns-2 : tie.Need-returns-2
-returns-2 c = no-node _ _ _ (fitted (c .before .before .before .fits2 .ensures) (c .before .before .if1 .left)) (c .if2 .taken)
-
-close-requires : tie.Need-close-requires
-close-requires c κs = closable-so _ _ _ (sym (c .before .before .before .before .before .before .before .before .before .before .check .ensures) ∙ c .before .before .before .before .before .before .before .before .enum-told .given .1) (c .before .before .before .before .before .before .before .before .before .before .before .before .before .before .before .before .if2 .left)
-
-returns-3 : tie.Need-returns-3
-returns-3 c =
-    is-sound _ _ _ (fitted (c .before .before .before .before .before .before .before .before .before .before .before .before .before .before .before .before .before .before .before .before .before .before .before .before .before .before .before .before .before .before .before .fits2 .ensures) (c .before .before .before .before .before .before .before .before .before .before .before .before .before .before .before .before .before .before .before .before .before .before .before .before .before .before .before .before .before .before .if1 .left)) (c .before .before .before .before .before .before .before .before .before .before .before .before .before .before .before .before .before .before .before .before .before .before .before .before .before .before .before .before .if2 .left) (ap accepted (sym (c .before .before .before .before .before .before .before .before .before .before .before .before .before .before .before .before .before .before .before .before .before .before .check .ensures) ∙ c .before .before .before .before .before .before .before .before .before .before .before .before .before .before .before .before .before .before .before .before .enum-told .given .1)) _ (c .before .before .before .before .before .before .before .before .before .before .before .close .ensures)
-
-returns-4 : tie.Need-returns-4
-returns-4 c =
-    not-sound _ _ _ (fitted (c .before .before .before .before .before .before .before .before .before .before .before .fits2 .ensures) (c .before .before .before .before .before .before .before .before .before .before .if1 .left)) (c .before .before .before .before .before .before .before .before .if2 .left) (ap accepted (sym (c .before .before .check .ensures) ∙ c .enum-told2 .given .1))
-
-returns-5 : tie.Need-returns-5
-returns-5 c =
-    not-sound _ _ _ (fitted (c .before .before .before .before .before .before .before .before .before .before .before .fits2 .ensures) (c .before .before .before .before .before .before .before .before .before .before .if1 .left)) (c .before .before .before .before .before .before .before .before .if2 .left) (ap accepted (sym (c .before .before .check .ensures) ∙ c .enum-told3 .given .1))
+past c = search (guards, decided) depth 9
 
 pub remove-node-spec : {M : Type 1} → statement M
+unfolding removeNode
 remove-node-spec =
     tie.close
     (tie.spec
@@ -40,16 +39,16 @@ remove-node-spec =
     (λ c. search needs)
     (λ c. search needs)
     (λ c. search needs)
-    returns
+    (λ c. search (guards, decided) depth 9)
     (λ c. search needs)
     (λ c. search needs)
     (λ c. search needs)
     (λ c. search needs)
     (λ c. search needs)
-    returns-2
+    (λ c. search (guards, decided) depth 9)
     (λ c κs. search needs)
     (λ c. search needs)
-    close-requires
+    (λ c κs. closable (search))
     (λ c. search needs)
     (λ c. search needs)
     (λ c. search needs)
@@ -58,16 +57,16 @@ remove-node-spec =
     (λ c. search needs)
     (λ c. search needs)
     (λ c. search needs)
-    returns-3
+    (λ c. let d : tie.After-close = search in d .close .ensures ∙ past (search))
     (λ c. search needs)
     (λ c. search needs)
     (λ c. search needs)
     (λ c. search needs)
     (λ c. search needs)
-    returns-4
+    (λ c. search (guards, decided) depth 9)
     (λ c. search needs)
     (λ c. search needs)
     (λ c. search needs)
     (λ c. search needs)
     (λ c. search needs)
-    returns-5)
+    (λ c. search (guards, decided) depth 9))

@@ -1,37 +1,45 @@
--- `image_read` meets its contract: each `return` rewrites with the tests that led there. Assumes nothing.
+-- `image_read` meets its contract: `guards` finds each test's fact; past the tests the call is its part. Assumes nothing.
+use Prim.Native.Nat.{ℕ}
+use mathlib.Core.Path.{_≡_, sym, _∙_}
+use mathlib.Core.Bool.{true, false}
+use mathlib.Core.List.{List}
 use native.Mathlib.Omega.{arith}
-use borrow.Author.Tests.{le-leb, lt-leb, ne-eqb}
+use borrow.Author.Tests.{eq-eqb, ne-eqb}
 use borrow.Author.Needs.{needs}
-use Rattle.tables.proofs.Laws.{misfit, fitted, fitting}
+use denote.Ref.{now}
+use lib.Dec.{eqb}
+use Rattle.tables.specs.Net.{Net, net}
+use Rattle.tables.proofs.Guards.{guards, FitOf}
+use Rattle.tables.proofs.Laws.{fitting}
+use Rattle.layout.specs.Layout.{version, versionIn}
+use Rattle.loading.specs.Loading.{readOne}
 use Rattle.image.specs.Calls.{imageRead}
-use Rattle.image.proofs.Served.{not-lent, read-on}
 use Rattle.image.proofs.image_read.Statement.{statement}
 use Rattle.image.proofs.image_read.Tie as tie
 
-returns : tie.Need-returns
-returns c = not-lent _ _ (misfit (c .before .fits2 .ensures) (c .if1 .taken))
+-- a test of the version read
+is-ours : (bytes : List ℕ) (v : ℕ) → v ≡ versionIn bytes → v ≡ version → eqb (versionIn bytes) version ≡ true
+is-ours bytes v p q = eq-eqb _ _ (sym p ∙ q)
 
-returns-2 : tie.Need-returns-2
+not-ours : (bytes : List ℕ) (v : ℕ) → v ≡ versionIn bytes → (v ≡ version → ⊥) → eqb (versionIn bytes) version ≡ false
+not-ours bytes v p q = ne-eqb _ _ (λ e. q (p ∙ e))
+
+ruleset versions = (is-ours, not-ours)
+
+-- the network lent
+abbrev lent : tie.Start → Net
+lent s = net (now (s .args .weights)) (now (s .args .heads)) (now (s .args .registers)) (now (s .args .links)) (now (s .args .ends)) (now (s .args .n)) (now (s .args .m))
+
+-- past the first test, and past the last
+fit : (c : tie.Else1) → FitOf (lent (search))
+fit c = fitting (c .before .fits2 .ensures) (c .if1 .left)
+
+past : (c : tie.After-read-one-arg) → let s : tie.Start = search in readOne (lent s) (now (s .args .bytes)) ≡ imageRead (lent s) (now (s .args .bytes))
 unfolding imageRead
-returns-2 c = rw (fitted (c .before .before .fits2 .ensures) (c .before .if1 .left), lt-leb _ _ (c .if2 .taken))
-
-returns-3 : tie.Need-returns-3
-unfolding imageRead
-returns-3 c = rw (fitted (c .before .before .before .before .before .fits2 .ensures) (c .before .before .before .before .if1 .left), le-leb _ _ (c .before .before .before .if2 .left), misfit (c .before .before .marked .ensures) (c .if3 .taken))
-
-returns-4 : tie.Need-returns-4
-unfolding imageRead
-returns-4 c = rw (fitted (c .before .before .before .before .before .before .fits2 .ensures) (c .before .before .before .before .before .if1 .left), le-leb _ _ (c .before .before .before .before .if2 .left), fitted (c .before .before .before .marked .ensures) (c .before .if3 .left), ← c .before .before .half .ensures, ne-eqb _ _ (c .if4 .taken))
-
-read-one-requires : tie.Need-read-one-requires
-read-one-requires c κs =
-    let f = fitting (c .before .before .before .before .before .before .before .before .before .before .before .before .before .fits2 .ensures) (c .before .before .before .before .before .before .before .before .before .before .before .before .if1 .left) in
-    record { agree = record { heads-agree = f .heads-agree; links-agree = f .links-agree; ends-agree = f .ends-agree }; head-holds = omega arith }
-
-returns-5 : tie.Need-returns-5
-returns-5 c = read-on _ _ (fitted (c .before .before .before .before .before .before .before .before .before .before .before .before .before .before .before .before .before .before .before .before .before .before .before .fits2 .ensures) (c .before .before .before .before .before .before .before .before .before .before .before .before .before .before .before .before .before .before .before .before .before .before .if1 .left)) (c .before .before .before .before .before .before .before .before .before .before .before .before .before .before .before .before .before .before .before .before .before .if2 .left) (fitted (c .before .before .before .before .before .before .before .before .before .before .before .before .before .before .before .before .before .before .before .before .marked .ensures) (c .before .before .before .before .before .before .before .before .before .before .before .before .before .before .before .before .before .before .if3 .left)) (c .before .before .before .before .before .before .before .before .before .before .before .before .before .before .before .before .before .before .before .half .ensures) (c .before .before .before .before .before .before .before .before .before .before .before .before .before .before .before .before .before .if4 .left) (c .before .before .before .before .before .before .before .before .before .read-one .ensures)
+past c = search (guards, versions) depth 9
 
 pub image-read-spec : {M : Type 1} → statement M
+unfolding imageRead
 image-read-spec =
     tie.close
     (tie.spec
@@ -41,13 +49,13 @@ image-read-spec =
     (λ c. search needs)
     (λ c. search needs)
     (λ c. search needs)
-    returns
+    (λ c. search (guards, versions) depth 9)
     (λ c. search needs)
     (λ c. search needs)
     (λ c. search needs)
     (λ c. search needs)
     (λ c. search needs)
-    returns-2
+    (λ c. search (guards, versions) depth 9)
     (λ c κs. search needs)
     (λ c κs. search needs)
     (λ c. search needs)
@@ -55,17 +63,17 @@ image-read-spec =
     (λ c. search needs)
     (λ c. search needs)
     (λ c. search needs)
-    returns-3
+    (λ c. search (guards, versions) depth 9)
     (λ c. search needs)
     (λ c. search needs)
     (λ c. search needs)
     (λ c. search needs)
     (λ c. search needs)
-    returns-4
-    read-one-requires
+    (λ c. search (guards, versions) depth 9)
+    (λ c κs. let f = fit (search) in omega arith)
     (λ c. search needs)
     (λ c. search needs)
     (λ c. search needs)
     (λ c. search needs)
     (λ c. search needs)
-    returns-5)
+    (λ c. let d : tie.After-read-one = search in d .read-one .ensures ∙ past (search)))

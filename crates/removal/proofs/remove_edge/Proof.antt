@@ -1,32 +1,29 @@
--- `remove_edge` meets its contract: each `return` is what the definition gives past the tests that led there. Assumes nothing.
+-- `remove_edge` meets its contract: `guards` finds each test's fact; past the tests the call is its part. Assumes nothing.
+use mathlib.Core.Path.{_≡_, _∙_}
 use native.Mathlib.Omega.{arith}
-use Rattle.tables.proofs.Laws.{misfit, fitted, fitting}
-use Rattle.removal.specs.Removal.{removeEdge}
-use Rattle.removal.proofs.Ways.{no-edge, past-guards}
 use borrow.Author.Needs.{needs}
+use denote.Ref.{now}
+use Rattle.tables.specs.Net.{Net, net}
+use Rattle.tables.proofs.Guards.{guards, FitOf}
+use Rattle.tables.proofs.Laws.{fitting}
+use Rattle.removal.specs.Removal.{takenOut, removeEdge}
 use Rattle.removal.proofs.remove_edge.Statement.{statement}
 use Rattle.removal.proofs.remove_edge.Tie as tie
 
-returns : tie.Need-returns
+-- the network lent
+abbrev lent : tie.Start → Net
+lent s = net (now (s .args .weights)) (now (s .args .heads)) (now (s .args .registers)) (now (s .args .links)) (now (s .args .ends)) (s .args .n) (now (s .args .m))
+
+-- past the first test, and past the last
+fit : (c : tie.Else1) → FitOf (lent (search))
+fit c = fitting (c .before .fits2 .ensures) (c .if1 .left)
+
+past : (c : tie.After-take-out-arg) → let s : tie.Start = search in takenOut (lent s) (s .args .e .0) ≡ removeEdge (lent s) (s .args .e .0)
 unfolding removeEdge
-returns c = rw (misfit (c .before .fits2 .ensures) (c .if1 .taken))
-
-returns-2 : tie.Need-returns-2
-returns-2 c = no-edge _ _ (fitted (c .before .before .before .fits2 .ensures) (c .before .before .if1 .left)) (c .if2 .taken)
-
-take-out-requires : tie.Need-take-out-requires
-take-out-requires c κs =
-    let f = fitting (c .before .before .before .before .before .before .before .before .fits2 .ensures) (c .before .before .before .before .before .before .before .if1 .left) in
-    record {
-      within = record { heads-hold = omega arith; links-hold = omega arith; ends-hold = omega arith; edges-most = omega arith; edge = c .before .before .before .before .before .if2 .left };
-      registers-hold = f .m-within;
-    }
-
-returns-3 : tie.Need-returns-3
-returns-3 c =
-    past-guards _ _ _ (fitted (c .before .before .before .before .before .before .before .before .before .before .before .before .before .before .before .before .before .fits2 .ensures) (c .before .before .before .before .before .before .before .before .before .before .before .before .before .before .before .before .if1 .left)) (c .before .before .before .before .before .before .before .before .before .before .before .before .before .before .if2 .left) (c .before .before .before .before .before .before .before .before .take-out .ensures (c .before .before .before .before .before .before .before .before .before .before .before .before .before .before .before .before .before .before .before .before .before .before .before .before .before .before .before .args .weights .now))
+past c = search guards depth 9
 
 pub remove-edge-spec : {M : Type 1} → statement M
+unfolding removeEdge
 remove-edge-spec =
     tie.close
     (tie.spec
@@ -35,15 +32,15 @@ remove-edge-spec =
     (λ c. search needs)
     (λ c. search needs)
     (λ c. search needs)
-    returns
+    (λ c. search guards depth 9)
     (λ c. search needs)
     (λ c. search needs)
     (λ c. search needs)
     (λ c. search needs)
-    returns-2
-    take-out-requires
+    (λ c. search guards depth 9)
+    (λ c κs. let f = fit (search) in omega arith)
     (λ c. search needs)
     (λ c. search needs)
     (λ c. search needs)
     (λ c. search needs)
-    returns-3)
+    (λ c. let s : tie.Start = search in let d : tie.After-take-out = search in d .take-out .ensures (now (s .args .weights)) ∙ past (search)))

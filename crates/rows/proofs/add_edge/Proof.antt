@@ -1,46 +1,38 @@
--- `rows::add_edge` meets its contract: each `return` rewrites with the tests that led there. Assumes nothing.
-use borrow.Author.Needs.{needs}
-use borrow.Author.Tests.{lt-ltb, le-ltb}
+-- `rows::add_edge` meets its contract: `guards` finds each test's fact; past the tests the parts' columns are the definition's. Assumes nothing.
+use Prim.Native.Nat.{ℕ}
+use mathlib.Core.Path.{_≡_, _∙_}
 use native.Mathlib.Omega.{arith}
-use Rattle.rows.specs.Calls.{addEdge}
-use Rattle.tables.proofs.Laws.{misfit, fitted, fitting}
-use Rattle.rows.proofs.Served.{edge-added}
+use borrow.Author.Needs.{needs}
+use denote.Ref.{now}
+use Rattle.tables.specs.Net.{Net, net}
+use Rattle.tables.specs.Answers.{Out, out, done}
+use Rattle.tables.proofs.Guards.{guards, FitOf}
+use Rattle.tables.proofs.Laws.{fitting}
+use Rattle.rows.specs.Calls.{addEdge, linked}
+use Rattle.rows.proofs.Served.{edge-linked}
 use Rattle.rows.proofs.add_edge.Statement.{statement}
 use Rattle.rows.proofs.add_edge.Tie as tie
 
-returns : tie.Need-returns
+-- the network lent, what the call is to answer, and what it answers where it is served
+abbrev lent : tie.Start → Net
+lent s = net (now (s .args .weights)) (now (s .args .heads)) (now (s .args .registers)) (now (s .args .links)) (now (s .args .ends)) (s .args .n) (now (s .args .m))
+
+abbrev asked : tie.Start → Out ℕ Net
+asked s = addEdge (lent s) (s .args .a .0) (s .args .b .0) (s .args .w)
+
+abbrev served : tie.Start → Out ℕ Net
+served s = out (done (lent s .m)) (linked (lent s) (s .args .a .0) (s .args .b .0) (s .args .w))
+
+-- past the first test, and past the last
+fit : (c : tie.Else1) → FitOf (lent (search))
+fit c = fitting (c .before .fits2 .ensures) (c .if1 .left)
+
+past : (c : tie.After-link-edge-arg) → let s : tie.Start = search in served s ≡ asked s
 unfolding addEdge
-returns c = rw (misfit (c .before .fits2 .ensures) (c .if1 .taken))
-
-returns-2 : tie.Need-returns-2
-unfolding addEdge
-returns-2 c = rw (fitted (c .before .before .fits2 .ensures) (c .before .if1 .left), le-ltb _ _ (c .if2 .taken))
-
-returns-3 : tie.Need-returns-3
-unfolding addEdge
-returns-3 c = rw (fitted (c .before .before .before .before .fits2 .ensures) (c .before .before .before .if1 .left), lt-ltb _ _ (c .before .before .if2 .left), le-ltb _ _ (c .if3 .taken))
-
-returns-4 : tie.Need-returns-4
-unfolding addEdge
-returns-4 c = rw (fitted (c .before .before .before .before .before .before .fits2 .ensures) (c .before .before .before .before .before .if1 .left), lt-ltb _ _ (c .before .before .before .before .if2 .left), lt-ltb _ _ (c .before .before .if3 .left), le-ltb _ _ (c .if4 .taken))
-
-link-edge-requires : tie.Need-link-edge-requires
-link-edge-requires c κs =
-    let f = fitting (c .before .before .before .before .before .before .before .before .before .before .fits2 .ensures) (c .before .before .before .before .before .before .before .before .before .if1 .left) in
-    omega arith
-
-add-m : tie.Need-add-m
-add-m c =
-    let f = fitting (c .before .before .before .before .before .before .before .before .before .before .before .before .before .before .before .before .before .before .before .fits2 .ensures) (c .before .before .before .before .before .before .before .before .before .before .before .before .before .before .before .before .before .before .if1 .left) in
-    omega (arith, c .before .before .before .before .before .before .before .before .before .before .before .before .before .before .before .before .before .if2 .left)
-
-returns-5 : tie.Need-returns-5
-returns-5 c =
-    let q = c .before .before .before .before .before .before .before .before .link-edge .ensures in
-    let r = q .row-is in
-    edge-added _ _ _ _ (fitted (c .before .before .before .before .before .before .before .before .before .before .before .before .before .before .before .before .before .before .before .fits2 .ensures) (c .before .before .before .before .before .before .before .before .before .before .before .before .before .before .before .before .before .before .if1 .left)) (c .before .before .before .before .before .before .before .before .before .before .before .before .before .before .before .before .before .if2 .left) (c .before .before .before .before .before .before .before .before .before .before .before .before .before .before .before .if3 .left) (c .before .before .before .before .before .before .before .before .before .before .before .before .before .if4 .left) (q .heads-are) (r .registers-are) (r .links-are) (r .ends-are)
+past c = search guards depth 9
 
 pub add-edge-spec : {M : Type 1} → statement M
+unfolding addEdge
 add-edge-spec =
     tie.close
     (tie.spec
@@ -49,26 +41,26 @@ add-edge-spec =
     (λ c. search needs)
     (λ c. search needs)
     (λ c. search needs)
-    returns
+    (λ c. search guards depth 9)
     (λ c. search needs)
     (λ c. search needs)
     (λ c. search needs)
     (λ c. search needs)
-    returns-2
+    (λ c. search guards depth 9)
     (λ c. search needs)
     (λ c. search needs)
     (λ c. search needs)
     (λ c. search needs)
-    returns-3
+    (λ c. search guards depth 9)
     (λ c. search needs)
     (λ c. search needs)
     (λ c. search needs)
     (λ c. search needs)
-    returns-4
-    link-edge-requires
-    add-m
+    (λ c. search guards depth 9)
+    (λ c κs. let f = fit (search) in omega arith)
+    (λ c. let f = fit (search) in omega arith)
     (λ c. search needs)
     (λ c. search needs)
     (λ c. search needs)
     (λ c. search needs)
-    returns-5)
+    (λ c. let d : tie.After-link-edge = search in edge-linked _ _ _ _ _ _ _ _ _ _ (d .link-edge .ensures) ∙ past (search)))

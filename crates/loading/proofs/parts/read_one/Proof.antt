@@ -1,28 +1,44 @@
--- `parts::read_one` meets its contract: each `return` rewrites with the tests that led there. Assumes nothing.
-use borrow.Author.Tests.{le-leb, lt-leb, ne-eqb}
-use native.Mathlib.Omega.{arith}
+-- `parts::read_one` meets its contract: `guards` finds each test's fact; past the tests the parts' columns are the definition's. Assumes nothing.
+use Prim.{Unit}
+use mathlib.Core.Path.{_≡_, _∙_}
 use borrow.Author.Needs.{needs}
 use denote.Ref.{now}
-use lib.ListN.{length}
-use Rattle.loading.specs.Loading.{readOne}
-use Rattle.loading.proofs.Served.{read-settled}
+use Rattle.tables.specs.Net.{Net, net}
+use Rattle.tables.proofs.Guards.{guards}
+use Rattle.tables.specs.Answers.{Out}
+use Rattle.imagerows.specs.Image.{loaded}
+use Rattle.loading.specs.Loading.{settled, readOne}
+use Rattle.loading.proofs.Served.{readBy, by-counts, rows-settled}
 use Rattle.loading.proofs.parts.read_one.Statement.{statement}
 use Rattle.loading.proofs.parts.read_one.Tie as tie
 
-returns : tie.Need-returns
-unfolding readOne
-returns c = rw (← c .before .before .before .word .ensures, lt-leb _ _ (c .if1 .taken))
+-- the network lent; what the call is to answer, by the counts and the length that it has read
+abbrev lent : tie.Start → Net
+lent s = net (now (s .args .weights)) (now (s .args .heads)) (now (s .args .registers)) (now (s .args .links)) (now (s .args .ends)) (now (s .args .n)) (now (s .args .m))
 
-returns-2 : tie.Need-returns-2
-unfolding readOne
-returns-2 c = rw (← c .before .before .before .before .word .ensures, ← c .before .before .before .word2 .ensures, le-leb _ _ (c .before .if1 .left), lt-leb _ _ (c .if2 .taken))
+abbrev read-by : tie.After-image-length → Out Unit Net
+read-by c =
+    let s : tie.Start = search in
+    let n : tie.After-word = search in
+    let m : tie.After-word2 = search in
+    readBy (lent s) (now (s .args .bytes)) (n .word .result) (m .word2 .result) (c .image-length .result)
 
-returns-3 : tie.Need-returns-3
-unfolding readOne
-returns-3 c = rw (← c .before .before .before .before .before .word .ensures, ← c .before .before .before .before .word2 .ensures, le-leb _ _ (c .before .before .if1 .left), le-leb _ _ (c .before .if2 .left), ← c .before .before .before .image-length .ensures, ne-eqb (length (now (c .before .before .before .before .before .before .before .before .before .before .before .args .bytes))) (c .before .before .before .image-length .result) (λ e. omega arith))
+by : (c : tie.After-image-length) → let s : tie.Start = search in read-by c ≡ readOne (lent s) (now (s .args .bytes))
+by c =
+    let n : tie.After-word = search in
+    let m : tie.After-word2 = search in
+    by-counts _ _ (n .word .ensures) (m .word2 .ensures) (c .image-length .ensures)
 
-returns-4 : tie.Need-returns-4
-returns-4 c = read-settled _ _ (c .before .before .before .before .before .before .before .before .before .before .before .before .before .before .before .before .before .before .before .before .before .before .before .before .before .before .before .before .before .before .before .before .before .before .before .before .before .word .ensures) (c .before .before .before .before .before .before .before .before .before .before .before .before .before .before .before .before .before .before .before .before .before .before .before .before .before .before .before .before .before .before .before .before .before .before .before .before .word2 .ensures) (c .before .before .before .before .before .before .before .before .before .before .before .before .before .before .before .before .before .before .before .before .before .before .before .before .before .before .before .before .before .before .before .before .before .before .if1 .left) (c .before .before .before .before .before .before .before .before .before .before .before .before .before .before .before .before .before .before .before .before .before .before .before .before .before .before .before .before .before .before .before .before .before .if2 .left) (c .before .before .before .before .before .before .before .before .before .before .before .before .before .before .before .before .before .before .before .before .before .before .before .before .before .before .before .before .before .before .before .before .before .before .before .image-length .ensures) (c .before .before .before .before .before .before .before .before .before .before .before .before .before .before .before .before .before .before .before .before .before .before .before .before .before .before .before .before .before .before .before .before .if3 .left) (c .before .before .before .before .before .before .before .before .before .before .before .before .before .before .before .before .before .before .before .before .before .before .before .before .before .before .load .ensures) (c .before .before .before .before .before .before .before .before .before .settle .ensures)
+-- past the tests
+abbrev served : tie.After-image-length → Out Unit Net
+served c =
+    let s : tie.Start = search in
+    let n : tie.After-word = search in
+    let m : tie.After-word2 = search in
+    settled (loaded (lent s) (now (s .args .bytes)) (n .word .result) (m .word2 .result))
+
+past : (c : tie.After-load-arg) → served (search) ≡ read-by (search)
+past c = search guards depth 9
 
 pub read-one-spec : {M : Type 1} → statement M
 read-one-spec =
@@ -32,10 +48,10 @@ read-one-spec =
     (λ c κs. search needs)
     (λ c κs. search needs)
     (λ c. search needs)
-    returns
+    (λ c. search guards depth 9 ∙ by (search))
     (λ c. search needs)
-    returns-2
-    returns-3
+    (λ c. search guards depth 9 ∙ by (search))
+    (λ c. search guards depth 9 ∙ by (search))
     (λ c κs. search needs)
     (λ c κs. search needs)
     (λ c. search needs)
@@ -43,4 +59,7 @@ read-one-spec =
     (λ c. search needs)
     (λ c. search needs)
     (λ c. search needs)
-    returns-4)
+    (λ c.
+    let l : tie.After-load = search in
+    let d : tie.After-settle = search in
+    rows-settled _ _ _ _ (l .load .ensures) (d .settle .ensures) ∙ past (search) ∙ by (search)))
