@@ -6,10 +6,12 @@ use std::panic::{AssertUnwindSafe, catch_unwind};
 
 use crate::graph::{EdgeDirection, EdgeIndex, NodeIndex};
 use crate::network::Graph;
+use crate::{EdgeRow, NodeRow, of_rows};
 
 /// A call, by the name that it has in the table.
 #[derive(Clone, Copy, Debug)]
 pub enum Call {
+    Rows(&'static [NodeRow], &'static [EdgeRow]),
     AddNode(i32),
     AddEdge(u32, u32, u32),
     UpdateEdge(u32, u32, u32),
@@ -53,6 +55,10 @@ fn numbers(found: Option<Vec<u32>>) -> Answer {
 /// Makes a call on graph.rs; it may panic.
 fn perform(graph: &mut Graph, call: Call) -> Answer {
     match call {
+        Rows(nodes, edges) => {
+            *graph = of_rows(nodes, edges);
+            Numbers(vec![])
+        }
         AddNode(w) => Numbers(vec![graph.add_node(w).0]),
         AddEdge(a, b, w) => Numbers(vec![graph.add_edge(NodeIndex(a), NodeIndex(b), w).0]),
         UpdateEdge(a, b, w) => Numbers(vec![graph.update_edge(NodeIndex(a), NodeIndex(b), w).0]),
@@ -124,6 +130,17 @@ fn perform(graph: &mut Graph, call: Call) -> Answer {
     }
 }
 
+const END: u32 = u32::MAX;
+
+/// A head that names an edge where there is none.
+const LOST_HEAD: Call = Rows(&[(5, [0, END])], &[]);
+
+/// Edge 0 stands in two incoming lists.
+const LINKED_TWICE: Call = Rows(
+    &[(0, [2, 0]), (0, [END, 0])],
+    &[(60, [END, 1], [0, 0]), (61, [0, 2], [0, 1]), (62, [1, END], [0, 1])],
+);
+
 /// The networks that calls are tried on, each by the calls that make it.
 fn networks() -> Vec<(String, Vec<Call>)> {
     let mut all = vec![
@@ -179,6 +196,8 @@ fn networks() -> Vec<(String, Vec<Call>)> {
             ],
         ),
     ];
+    all.push(("lostHead".to_string(), vec![LOST_HEAD]));
+    all.push(("linkedTwice".to_string(), vec![LINKED_TWICE]));
     let mut chance = Chance(1);
     for index in 0..MIXED {
         let nodes = 1 + chance.below(4);
@@ -212,6 +231,12 @@ impl Chance {
 
 /// The calls that are tried on a network of that name, with so many nodes and edges.
 fn tried(name: &str, nodes: u32, edges: u32) -> Vec<Call> {
+    // On damaged rows only what comes to an end.
+    match name {
+        "lostHead" => return vec![RemoveEdge(0), RemoveNode(0)],
+        "linkedTwice" => return vec![RemoveEdge(0)],
+        _ => {}
+    }
     let mut calls = vec![];
     if name == "networkA" {
         use EdgeDirection::{Incoming, Outgoing};
@@ -367,6 +392,7 @@ fn written(call: Call) -> String {
         }
     };
     match call {
+        Rows(nodes, edges) => format!("Rows ({})", rows(&of_rows(nodes, edges))),
         AddNode(w) => format!("AddNode {}", signed(w)),
         AddEdge(a, b, w) => format!("AddEdge {a} {b} {w}"),
         UpdateEdge(a, b, w) => format!("UpdateEdge {a} {b} {w}"),

@@ -13,8 +13,9 @@ use Rattle.original.specs.Rust as Rust
 use Rattle.original.specs.Iterators.{EdgeReference}
 use Rattle.original.specs.Iterators as Iterators
 
--- a call of graph.rs; `SetNodeWeight` and `SetEdgeWeight` are `graph[a] = w` and `graph[e] = w`
+-- a call of graph.rs; `SetNodeWeight` and `SetEdgeWeight` are `graph[a] = w` and `graph[e] = w`, and `Rows` puts any rows in place of all
 pub data Call : Type 0 where
+  Rows : Graph → Call
   AddNode : ℤ → Call
   AddEdge : (a b w : ℕ) → Call
   UpdateEdge : (a b w : ℕ) → Call
@@ -59,6 +60,7 @@ spread (edge ∷ found) = edge .index ∷ (edge .node ! 0) ∷ (edge .node ! 1) 
 
 -- the call on the definitions: its answer, and the rows afterwards
 unfoldable pub perform : Call → Graph → Run (Answer × Graph)
+perform (Rows rows) g = returns (Numbers [], rows)
 perform (AddNode w) g = Rust.«add_node» g w >>= λ (a, g′). returns (Numbers (a ∷ []), g′)
 perform (AddEdge a b w) g = Rust.«add_edge» g a b w >>= λ (e, g′). returns (Numbers (e ∷ []), g′)
 perform (UpdateEdge a b w) g = Rust.«update_edge» g a b w >>= λ (e, g′). returns (Numbers (e ∷ []), g′)
@@ -138,6 +140,18 @@ hub = AddNode (pos 0) ∷ AddNode (pos 1) ∷ AddNode (pos 2) ∷ AddNode (pos 3
 
 abbrev pub hubRows : Graph
 hubRows = graph (node (pos 0) 6 4 ∷ node (pos 1) 5 0 ∷ node (pos 2) 1 6 ∷ node (pos 3) 4 2 ∷ []) (edge 40 END END 0 1 ∷ edge 41 END END 2 0 ∷ edge 42 0 END 0 3 ∷ edge 43 2 1 0 0 ∷ edge 44 END 3 3 0 ∷ edge 45 END END 1 2 ∷ edge 46 3 5 0 2 ∷ [])
+
+abbrev pub lostHead : List Call
+lostHead = Rows (graph (node (pos 5) 0 END ∷ []) []) ∷ []
+
+abbrev pub lostHeadRows : Graph
+lostHeadRows = graph (node (pos 5) 0 END ∷ []) []
+
+abbrev pub linkedTwice : List Call
+linkedTwice = Rows (graph (node (pos 0) 2 0 ∷ node (pos 0) END 0 ∷ []) (edge 60 END 1 0 0 ∷ edge 61 0 2 0 1 ∷ edge 62 1 END 0 1 ∷ [])) ∷ []
+
+abbrev pub linkedTwiceRows : Graph
+linkedTwiceRows = graph (node (pos 0) 2 0 ∷ node (pos 0) END 0 ∷ []) (edge 60 END 1 0 0 ∷ edge 61 0 2 0 1 ∷ edge 62 1 END 0 1 ∷ [])
 
 abbrev pub mixed0 : List Call
 mixed0 = AddNode (negsuc 0) ∷ AddNode (pos 0) ∷ AddNode (pos 1) ∷ AddEdge 0 0 50 ∷ []
@@ -291,6 +305,9 @@ recorded =
     ∷ case hub (RemoveNode 2) (returns (Weight (pos 2) (41 ∷ 46 ∷ 45 ∷ []), graph (node (pos 0) 3 1 ∷ node (pos 1) END 0 ∷ node (pos 3) 1 2 ∷ []) (edge 40 END END 0 1 ∷ edge 44 END 3 2 0 ∷ edge 42 0 END 0 2 ∷ edge 43 2 END 0 0 ∷ [])))
     ∷ case hub (RemoveNode 3) (returns (Weight (pos 3) (44 ∷ 42 ∷ []), graph (node (pos 0) 4 3 ∷ node (pos 1) 2 0 ∷ node (pos 2) 1 4 ∷ []) (edge 40 END END 0 1 ∷ edge 41 END END 2 0 ∷ edge 45 END END 1 2 ∷ edge 43 0 1 0 0 ∷ edge 46 3 2 0 2 ∷ [])))
     ∷ case hub (RemoveNode 4) (returns (Nothing, hubRows))
+    ∷ case lostHead (RemoveEdge 0) (returns (Nothing, lostHeadRows))
+    ∷ case lostHead (RemoveNode 0) panics
+    ∷ case linkedTwice (RemoveEdge 0) (returns (Numbers (60 ∷ []), graph (node (pos 0) 0 1 ∷ node (pos 0) END 0 ∷ []) (edge 62 1 END 0 1 ∷ edge 61 END 2 0 1 ∷ [])))
     ∷ case mixed0 (RemoveEdge 0) (returns (Numbers (50 ∷ []), graph (node (negsuc 0) END END ∷ node (pos 0) END END ∷ node (pos 1) END END ∷ []) []))
     ∷ case mixed0 (RemoveEdge 1) (returns (Nothing, mixed0Rows))
     ∷ case mixed0 (RemoveNode 0) (returns (Weight (negsuc 0) (50 ∷ []), graph (node (pos 1) END END ∷ node (pos 0) END END ∷ []) []))

@@ -1,6 +1,7 @@
 -- graph.rs as definitions, in its own names; the numbers are its lines. A callee stands before its callers, else the order is the file's.
 -- A `&mut self` is the graph that a call takes and the graph that it leaves; `NodeIndex` and `EdgeIndex` are their numbers. Left out, as the
--- order leaves them out: capacities, `raw_nodes` and its like, `all_edge_weights_mut`.
+-- order leaves them out: capacities, `raw_nodes` and its like, `all_edge_weights_mut`. Left out too: `graph[a]` and `graph[e]` read (988-993,
+-- 1011-1016), which are `node_weight` and `edge_weight` with a panic in place of `None`.
 use Prim.Native.Nat.{ℕ, zero, suc, _-_}
 use mathlib.Core.Bool.{Bool, true, false, cond, not}
 use mathlib.Core.List.{List, [], map}
@@ -158,11 +159,11 @@ unfoldable pub «remove_edge» : Graph → ℕ → Run (Option ℕ × Graph)
 abbrev pub Given : Type 0
 Given = List ℕ × Graph
 
--- 305-312. A turn takes out an edge: m turns and an edge more cannot be
+-- 305-312. A turn takes out an edge, so m turns leave none: a head that is not `END` then names no edge, and `expect` panics
 unfoldable pub removeEdgesOf : (turns a k : ℕ) → Given → Run Given
 removeEdgesOf zero a k (given, g) =
     index (g .nodes) a >>= λ node.
-    cond (eqb (node .next ! k) END) (returns (given, g)) endless
+    cond (eqb (node .next ! k) END) (returns (given, g)) panics
 removeEdgesOf (suc turns) a k (given, g) =
     index (g .nodes) a >>= λ node.
     cond (eqb (node .next ! k) END) (returns (given, g))
