@@ -24,15 +24,16 @@ use Rattle.sound.specs.Check.{checked, accepted}
 use Rattle.sound.proofs.Exactly.{sound-accepted, accepted-sound}
 use Rattle.sound.proofs.Kept.{HasLists}
 use Rattle.removal.specs.Lists.{renamed, Longest}
+use Rattle.removal.proofs.Freed.{freed-on}
 use Rattle.stripping.specs.Heads.{stripped}
 use Rattle.dropping.specs.Drop.{dropped, rowsMoved}
 use Rattle.closing.specs.Closing.{Closed, closed, closedIfRoom, removeNode}
 use Rattle.stripping.specs.Lists.{listing}
 use Rattle.dropping.specs.Drop.{nodeMoved}
 use Rattle.closing.specs.Lists.{lessNode, nodeRead, Stays, NodeOut}
-use Rattle.stripping.proofs.Stripping.{lessBoth, given-are, strip-fits, strip-sound, strip-nodes, strip-totals, strip-edges, bare-lists}
+use Rattle.stripping.proofs.Stripping.{lessBoth, given-are, strip-fits, strip-sound, strip-nodes, strip-freed, strip-totals, strip-edges, bare-lists}
 use Rattle.stripping.proofs.Stripping.{strip-rows, longest-left, strip-most, newNumber, strip-follows}
-use Rattle.dropping.proofs.Dropping.{drop-nodes, drop-edges, drop-registers, drop-totals, drop-fits, drop-ends, drop-sound, drop-read}
+use Rattle.dropping.proofs.Dropping.{drop-nodes, drop-edges, drop-registers, drop-totals, drop-fits, drop-ends, drop-sound, drop-read, drop-freed}
 
 -- node b under the number a
 moved-list : (a b : ℕ) (ls : ℕ → ℕ → List ℕ) (k c : ℕ) → (c ≡ a → ⊥) → nodeMoved a b ls k (renamed b a c) ≡ ls k c
@@ -110,6 +111,9 @@ module _ (g : Net) (ls : ℕ → ℕ → List ℕ) (a : ℕ) (f : fits g ≡ tru
             λ c l.
             drop-totals rest a rest-fits in-rest c (rw last l)
             ∙ ap₂ (λ (ws : List ℤ) b. getD ws (renamed a b c) (pos 0)) (strip-totals g ls a f S la) last;
+        freed =
+            freed-on g rest (dropped rest a) (omega (arith, strip-nodes g ls a f S la)) (omega (arith, strip-edges g ls a f S la)) (strip-freed g ls a f S la)
+            (drop-freed rest L a rest-fits rest-sound in-rest);
       }
 
 pub node-out : (g : Net) (ls : ℕ → ℕ → List ℕ) (a : ℕ) (items : List ℕ) → fits g ≡ true → Sound g ls → a < g .n → length (around g Weight a) ≤ length items

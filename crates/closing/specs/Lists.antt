@@ -11,7 +11,7 @@ use Rattle.tables.specs.Answers.{done, onto}
 use Rattle.lists.specs.declared.Item.the-variants.{Weight}
 use Rattle.lists.specs.Walk.{around, filter}
 use Rattle.sound.specs.Sound.{endAt, Sound}
-use Rattle.removal.specs.Lists.{renamed, Longest}
+use Rattle.removal.specs.Lists.{renamed, Longest, Freed}
 use Rattle.stripping.specs.Lists.{Listing, listing, listOut, listRead}
 use Rattle.dropping.specs.Drop.{nodeMoved}
 use Rattle.closing.specs.Closing.{Closed}
@@ -59,3 +59,5 @@ pub record NodeOut (g : Net) (ls : ℕ → ℕ → List ℕ) (a : ℕ) (items : 
   pub renumbered : (new : ℕ → ℕ) × Renumbered g ls a (g .n - 1) (o .after .0) (lessNode a (g .n - 1) (listing g ls)) new
   -- the other nodes with their weights
   pub totals : (c : ℕ) → c < g .n - 1 → getD (o .after .0 .weights) c (pos 0) ≡ getD (g .weights) (renamed a (g .n - 1) c) (pos 0)
+  -- the rows freed, and those past the counts
+  pub freed : Freed g (o .after .0)

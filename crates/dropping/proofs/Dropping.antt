@@ -1,5 +1,5 @@
 -- A node without edges is dropped, and the last node takes its place: its total, `drop-totals`, and the ends of its edges, `drop-ends`. The rows
--- visited are those of its lists, `drop-read`; the network left fits, `drop-fits`, and is sound, `drop-sound`. Assumes nothing.
+-- visited are those of its lists, `drop-read`; the network left fits, `drop-fits`, and is sound, `drop-sound`; the row freed is vacant, `drop-freed`.
 use Prim.Native.Nat.{ℕ, _+_, _*_, _-_, _≤_, _<_}
 use mathlib.Core.Path.{_≡_, refl, sym, ap, ap₂, _∙_}
 use mathlib.Core.Logic.{inl, inr}
@@ -14,7 +14,8 @@ use lib.ListN.{length, getD, set, length-set}
 use lib.Seq.{getD-set-same, getD-set-other}
 use Rattle.index.specs.Index.{END}
 use Rattle.tables.specs.Net.{Net, nodeRows, edgeRows, nodeCells, edgeCells, nodeCell, edgeCell, fit, fits}
-use Rattle.tables.specs.Rows.{withNode}
+use Rattle.tables.specs.declared.row.Node.{Node}
+use Rattle.tables.specs.Rows.{nodeRow, vacantNode, headsWith, withNode}
 use Rattle.lists.specs.declared.Spot.{Spot}
 use Rattle.lists.specs.declared.Spot.the-variants.{Head, After}
 use Rattle.lists.specs.Walk.{cell, linkAt}
@@ -25,7 +26,7 @@ use Rattle.sound.proofs.Same.{counts, members}
 use Rattle.sound.proofs.Exactly.{small, two, lists-are}
 use Rattle.sound.proofs.Direction.{framed}
 use Rattle.sound.proofs.Kept.{fitOf, first-cell, second-cell, other-cell}
-use Rattle.removal.specs.Lists.{renamed}
+use Rattle.removal.specs.Lists.{renamed, Freed}
 use Rattle.dropping.specs.Drop.{ended, dropped, rowsMoved}
 use Rattle.dropping.specs.Drop.{nodeMoved}
 use Rattle.dropping.proofs.Ends.{ended-length}
@@ -250,3 +251,53 @@ module _ (g : Net) (ls : ℕ → ℕ → List ℕ) (a : ℕ) (f : fits g ≡ tru
           | yes q ↦ rw (eq-eqb a b q) (omega (arith, empty 0 (omega arith) q, empty 1 (omega arith) q))
           | no q ↦ rw (ne-eqb a b q)
         ]
+
+-- a node row written holds what was written, and is in no other row
+node-same : (g : Net) (a : ℕ) (row : Node) → fits g ≡ true → a < g .n → nodeRow (withNode g a row) a ≡ row
+unfolding withNode
+node-same g a row f l =
+    let t = fitOf g f in
+    rw (
+      getD-set-same (g .weights) a (row .weight) (pos 0) (omega arith),
+      first-cell (g .heads) (nodeCell a 0) (nodeCell a 1) (row .outgoing .0) (row .incoming .0) (λ q. omega arith) (omega arith),
+      second-cell (g .heads) (nodeCell a 0) (nodeCell a 1) (row .outgoing .0) (row .incoming .0) (λ q. omega arith) (omega arith),
+    )
+
+node-other : (g : Net) (a : ℕ) (row : Node) (c : ℕ) → (c ≡ a → ⊥) → nodeRow (withNode g a row) c ≡ nodeRow g c
+unfolding withNode
+node-other g a row c d =
+    let other : (k : ℕ) → k < 2 → getD (headsWith (g .heads) a row) (nodeCell c k) 0 ≡ getD (g .heads) (nodeCell c k) 0 =
+    λ k h.
+    other-cell (g .heads) (nodeCell a 0) (nodeCell a 1) (row .outgoing .0) (row .incoming .0) (λ q. omega arith) (nodeCell c k) (λ q. d (omega arith))
+    (λ q. d (omega arith)) in
+    rw (getD-set-other (g .weights) a c (row .weight) (pos 0) d, other 0 (omega arith), other 1 (omega arith))
+
+node-fits : (g : Net) (a : ℕ) (row : Node) → fits (withNode g a row) ≡ fits g
+unfolding withNode
+node-fits g a row = simp length-set
+
+node-count : (g : Net) (a : ℕ) (row : Node) → withNode g a row .n ≡ g .n
+unfolding withNode
+node-count g a row = refl
+
+-- so the last node's row is freed, and no row past the counts is touched
+pub drop-freed : (g : Net) (ls : ℕ → ℕ → List ℕ) (a : ℕ) → fits g ≡ true → Sound g ls → a < g .n → Freed g (dropped g a)
+unfolding dropped
+drop-freed g ls a f S la =
+    let b = g .n - 1 in
+    let h = withNode g a (nodeRow g b) in
+    let past : (j k x : ℕ) → j < 2 → k < 2 → g .m ≤ x → j ≡ k → In x (lists g j b) → ⊥ =
+    λ j k x hj hk l q i.
+    omega (arith, below (linkAt g j) (g .m) (small g f) (Head b) x (ls j b) (S .all-end j b hj (omega arith)) (rw (lists-are g ls f S j b hj (omega arith)) at i)) in
+    let ends : (k x : ℕ) → k < 2 → g .m ≤ x → cell (ended 1 a (lists g 1 b) (ended 0 a (lists g 0 b) (g .ends))) k x ≡ cell (g .ends) k x =
+    λ k x hk l.
+    ended-off 1 k a x (lists g 1 b) (ended 0 a (lists g 0 b) (g .ends)) (omega arith) hk (past 1 k x (omega arith) hk l)
+    ∙ ended-off 0 k a x (lists g 0 b) (g .ends) (omega arith) hk (past 0 k x (omega arith) hk l) in
+    record {
+      nodes =
+          λ c p q.
+          (let z : c ≡ b = omega arith in rw z (node-same h b vacantNode (node-fits g a (nodeRow g b) ∙ f) (rw (node-count g a (nodeRow g b)) (omega arith))));
+      edges = λ x p q. absurd (omega arith);
+      nodes-past = λ c p. node-other h b vacantNode c (λ q. omega arith) ∙ node-other g a (nodeRow g b) c (λ q. omega arith);
+      edges-past = λ x p. rw (ends 0 x (omega arith) p, ends 1 x (omega arith) p);
+    }

@@ -28,13 +28,14 @@ use Rattle.links.specs.declared.Located.the-variants as Located·
 use Rattle.links.specs.declared.Search.the-variants as Search·
 use Rattle.links.specs.Links.{searched, led}
 use Rattle.removal.specs.Removal.{Gone, onPlace, placeOf, bypassed, lastOut, lastInto, lastMoved, gone, takenOut, removeEdge}
-use Rattle.removal.specs.Lists.{pos, renamed, left, lessEdge, rowsBefore, rowsRead, EdgeOut}
+use Rattle.removal.specs.Lists.{pos, renamed, left, lessEdge, rowsBefore, rowsRead, Freed, EdgeOut}
 use Rattle.links.specs.Parts.{Place}
 use Rattle.links.proofs.Hits.{located-at}
 use Rattle.removal.proofs.Members.{renamed-same}
 use Rattle.removal.proofs.Spots.{spotOf, spot-has, found-at}
 use Rattle.removal.proofs.Directions.{Used, Lacking, whole, relinked, bypassing, moving}
 use Rattle.removal.proofs.Bounds.{most-rows}
+use Rattle.removal.proofs.Freed.{InUse, freed-on, led-freed, last-out-freed, last-into-freed}
 use Rattle.removal.proofs.Stores.{Else, nothing-else, Remains, led-link, led-else, last-out, last-into}
 
 -- both directions of a network, but for edge e, which is in no list
@@ -67,6 +68,12 @@ module _ (g : Net) (ls : ℕ → ℕ → List ℕ) (e : ℕ) (f : fits g ≡ tru
       spot-has (Place (length (g .heads)) (length (g .links)) k) x (Head a) (ls k a) (omega arith)
       (λ y i. omega (arith, below (linkAt g k) (g .m) (small g f) (Head a) y (ls k a) (B k h .chain a b) i))
 
+  pub leads-from : (k : ℕ) → k < 2 → InUse (g .n) (g .m) (leader g ls x k)
+  leads-from k h =
+      let a = endAt g k x in
+      let b = B k h .has-end x lt in
+      spot-has (InUse (g .n) (g .m)) x (Head a) (ls k a) b (λ y i. below (linkAt g k) (g .m) (small g f) (Head a) y (ls k a) (B k h .chain a b) i)
+
   led-to : (v : ℕ → ℕ) (k : ℕ) → k < 2 → (t : Spot) → Used (g .n) (ls k) t
       → linkAt (led g (leader g ls x 0) (leader g ls x 1) (v 0) (v 1)) k t ≡ renamed x (v k) (linkAt g k t)
   led-to v k h =
@@ -96,6 +103,16 @@ module _ (g : Net) (ls : ℕ → ℕ → List ℕ) (e : ℕ) (f : fits g ≡ tru
   pub cut-fits : fits cut ≡ true
   cut-fits = cut-else .fit ∙ f
 
+  cut-freed : Freed g cut
+  unfolding cut bypassed
+  cut-freed =
+      let from = leads-from g ls (g .m) f all e lt (omega arith) in
+      led-freed g (leader g ls e 0) (leader g ls e 1) (linkAt g 0 (After e)) (linkAt g 1 (After e)) (from 0 (omega arith)) (from 1 (omega arith))
+
+  -- what is freed when e is bypassed, and then
+  freed-then : (i : Net) → Freed cut i → Freed g i
+  freed-then i F = freed-on g cut i (omega (arith, cut-else .nodes)) (omega (arith, cut-else .edges)) cut-freed F
+
   pub cut-lacks : Lacks cut (left e ls) e
   unfolding cut bypassed
   cut-lacks k h =
@@ -105,7 +122,7 @@ module _ (g : Net) (ls : ℕ → ℕ → List ℕ) (e : ℕ) (f : fits g ≡ tru
 
   -- the last row takes its number: in the links to that row, which gives h, and then by the row itself, which leaves i
   module _ (h i : Net) (links : (k : ℕ) → k < 2 → (t : Spot) → Used (cut .n) (left e ls k) t → linkAt h k t ≡ renamed (g .m - 1) e (linkAt cut k t))
-      (E : Else cut h) (R : Remains h i e (g .m - 1)) where
+      (E : Else cut h) (R : Remains h i e (g .m - 1)) (F : Freed g i) where
     left-ends : (k x : ℕ) → k < 2 → x < g .m - 1 → endAt i k x ≡ endAt cut k (renamed e (g .m - 1) x)
     left-ends k x b c = R .ends k x b c ∙ ap (λ column. cell column k (renamed e (g .m - 1) x)) (E .ends)
 
@@ -132,6 +149,7 @@ module _ (g : Net) (ls : ℕ → ℕ → List ℕ) (e : ℕ) (f : fits g ≡ tru
           sound = counts i (lessEdge l e ls) (small i (R .fit)) left-lists;
           weights = λ x c. R .weights x c ∙ ap (λ column. getD column (renamed e l x) 0) (E .registers ∙ cut-else .registers);
           ends = λ k x b c. left-ends k x b c ∙ ap (λ column. cell column k (renamed e l x)) (cut-else .ends);
+          freed = F;
         }
 
   -- e is the last row, and goes
@@ -144,7 +162,8 @@ module _ (g : Net) (ls : ℕ → ℕ → List ℕ) (e : ℕ) (f : fits g ≡ tru
     last-taken =
         let l = g .m - 1 in
         subst (EdgeOut g ls e) (sym last-is)
-        (settled cut (lastOut cut e) (λ k h t u. renamed-same l e (linkAt cut k t) q) (nothing-else cut) (last-out cut e l cut-fits (omega (arith, cut-else .edges)) q))
+        (settled cut (lastOut cut e) (λ k h t u. renamed-same l e (linkAt cut k t) q) (nothing-else cut) (last-out cut e l cut-fits (omega (arith, cut-else .edges)) q)
+        (freed-then (lastOut cut e) (last-out-freed cut e cut-fits (omega (arith, cut-else .edges)))))
 
   -- it is not: the last row is sought, and takes its place
   module _ (q : e < g .m - 1) where
@@ -167,13 +186,23 @@ module _ (g : Net) (ls : ℕ → ℕ → List ℕ) (e : ℕ) (f : fits g ≡ tru
         (ap (λ column. getD column e 0) (cut-else .registers))
         (ap (λ column. pos l (left e ls 0 (cell column 0 l)) + pos l (left e ls 1 (cell column 1 l))) (cut-else .ends)))
 
+    moved-freed : Freed cut (lastInto moved e (g .m - 1))
+    unfolding moved
+    moved-freed =
+        let l = g .m - 1 in
+        let from = leads-from cut (left e ls) e cut-fits cut-lacks l last (omega arith) in
+        freed-on cut moved (lastInto moved e l) (omega (arith, moved-else .nodes)) (omega (arith, moved-else .edges))
+        (led-freed cut (leader cut (left e ls) l 0) (leader cut (left e ls) l 1) e e (from 0 (omega arith)) (from 1 (omega arith)))
+        (last-into-freed moved e l (moved-else .fit ∙ cut-fits) (omega (arith, moved-else .edges, cut-else .edges)) (omega (arith, moved-else .edges, cut-else .edges)))
+
     moved-taken : EdgeOut g ls e (takenOut g e)
     unfolding moved
     moved-taken =
         let l = g .m - 1 in
         subst (EdgeOut g ls e) (sym moved-is)
         (settled moved (lastInto moved e l) (led-to cut (left e ls) e cut-fits cut-lacks l last (omega arith) (λ j. e)) moved-else
-        (last-into moved e l (moved-else .fit ∙ cut-fits) (rw (moved-else .edges) last) q))
+        (last-into moved e l (moved-else .fit ∙ cut-fits) (rw (moved-else .edges) last) q)
+        (freed-then (lastInto moved e l) moved-freed))
 
 pub taken-out : (g : Net) (ls : ℕ → ℕ → List ℕ) (e : ℕ) → fits g ≡ true → Sound g ls → e < g .m → EdgeOut g ls e (takenOut g e)
 taken-out g ls e f S lt =

@@ -5,5 +5,6 @@ pub mod Spots
 pub mod Directions
 pub mod Stores
 pub mod Bounds
+pub mod Freed
 pub mod EdgeOuts
 pub mod Told

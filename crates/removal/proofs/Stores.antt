@@ -112,7 +112,7 @@ weight-moved column e l x z room d =
     ]
 
 -- the columns still fit with a row written, and with fewer rows in use
-row-fits : (g : Net) (e : ℕ) (row : Edge) → fits (withEdge g e row) ≡ fits g
+pub row-fits : (g : Net) (e : ℕ) (row : Edge) → fits (withEdge g e row) ≡ fits g
 unfolding withEdge
 row-fits g e row = simp length-set
 

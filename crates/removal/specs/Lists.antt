@@ -7,6 +7,7 @@ use lib.Dec.{eqb}
 use lib.ListN.{length, getD}
 use Rattle.index.specs.Index.{END}
 use Rattle.tables.specs.Net.{Net, fits}
+use Rattle.tables.specs.Rows.{vacantNode, vacantEdge, nodeRow, edgeRow}
 use Rattle.tables.specs.Answers.{done}
 use Rattle.lists.specs.Chain.{without}
 use Rattle.sound.specs.Sound.{endAt, Sound}
@@ -41,6 +42,13 @@ rowsRead end ls l e = rowsBefore end ls e + cond (eqb e l) 0 (rowsBefore end (le
 abbrev pub Longest : Net → (ℕ → ℕ → List ℕ) → ℕ → Type 0
 Longest g ls D = (k a : ℕ) → k < 2 → a < g .n → length (ls k a) ≤ D
 
+-- 'A row freed by a removal .. becomes vacant; other rows at or past the count are not touched': h is what was left of g
+pub record Freed (g h : Net) : Type 0 where
+  pub nodes : (c : ℕ) → h .n ≤ c → c < g .n → nodeRow h c ≡ vacantNode
+  pub edges : (x : ℕ) → h .m ≤ x → x < g .m → edgeRow h x ≡ vacantEdge
+  pub nodes-past : (c : ℕ) → g .n ≤ c → nodeRow h c ≡ nodeRow g c
+  pub edges-past : (x : ℕ) → g .m ≤ x → edgeRow h x ≡ edgeRow g x
+
 -- edge e is out of the sound network g, whose lists were ls
 pub record EdgeOut (g : Net) (ls : ℕ → ℕ → List ℕ) (e : ℕ) (o : Gone) : Type 0 where
   -- it is served: e's weight, the last row's number if that row moved, the rows read
@@ -57,3 +65,5 @@ pub record EdgeOut (g : Net) (ls : ℕ → ℕ → List ℕ) (e : ℕ) (o : Gone
   pub totals : o .after .weights ≡ g .weights
   pub weights : (x : ℕ) → x < g .m - 1 → getD (o .after .registers) x 0 ≡ getD (g .registers) (renamed e (g .m - 1) x) 0
   pub ends : (k x : ℕ) → k < 2 → x < g .m - 1 → endAt (o .after) k x ≡ endAt g k (renamed e (g .m - 1) x)
+  -- the row freed, and those past the counts
+  pub freed : Freed g (o .after)

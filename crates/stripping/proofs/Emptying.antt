@@ -19,9 +19,10 @@ use Rattle.lists.proofs.Chains.{fresh, below}
 use Rattle.sound.specs.Sound.{endAt}
 use Rattle.sound.proofs.Exactly.{small}
 use Rattle.removal.specs.Removal.{takenOut}
-use Rattle.removal.specs.Lists.{pos, renamed, rowsRead, Longest}
+use Rattle.removal.specs.Lists.{pos, renamed, rowsRead, Longest, Freed}
 use Rattle.removal.proofs.Members.{no-longer}
 use Rattle.removal.proofs.Bounds.{most-rows-first}
+use Rattle.removal.proofs.Freed.{freed-none, freed-on}
 use Rattle.stripping.specs.Heads.{Strip, strip, headOut, emptied}
 use Rattle.stripping.specs.Lists.{Listing, outOf, headsOut, headsRead}
 use Rattle.stripping.proofs.Others.{map-moved, filter-all}
@@ -51,6 +52,7 @@ pub record Emptied (k a : ℕ) (g : Net) (given : List ℕ) (rows : ℕ) (N M : 
   pub nodes : t .rest .n ≡ g .n
   pub totals : t .rest .weights ≡ g .weights
   pub edges : t .rest .m + length (N .list k a) ≡ g .m
+  pub freed : Freed g (t .rest)
   pub none : M .list k a ≡ []
   pub rows-are : t .rows ≡ rows + read
   pub given-are : t .given ≡ given ++ map (register g) (N .list k a)
@@ -70,6 +72,7 @@ bare k a g given rows N hk H q =
       nodes = refl;
       totals = refl;
       edges = rw q (omega arith);
+      freed = freed-none g;
       none = q;
       rows-are = sym (add-zero rows);
       given-are = rw q (sym (append-nil given));
@@ -148,6 +151,7 @@ module _ (k a : ℕ) (g : Net) (N : Listing) (hk : k < 2) (la : a < g .n) (H : H
           nodes = E .nodes ∙ o .nodes;
           totals = E .totals ∙ o .totals;
           edges = omega (arith, E .edges, o .edges, in-range, length-left, length-before);
+          freed = freed-on g (next .rest) (t .rest) (omega (arith, o .nodes)) (omega (arith, o .edges)) (o .freed) (E .freed);
           none = E .none;
           rows-are = omega (arith, E .rows-are);
           given-are =

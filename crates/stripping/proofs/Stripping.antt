@@ -17,7 +17,8 @@ use Rattle.lists.specs.Walk.{linkAt, filter, rowsFrom, around}
 use Rattle.lists.proofs.Chains.{chain-length}
 use Rattle.sound.specs.Sound.{endAt, Sound}
 use Rattle.sound.proofs.Exactly.{small, two, lists-are}
-use Rattle.removal.specs.Lists.{Longest}
+use Rattle.removal.specs.Lists.{Longest, Freed}
+use Rattle.removal.proofs.Freed.{freed-on}
 use Rattle.stripping.specs.Heads.{Strip, strip, emptied, stripped}
 use Rattle.stripping.specs.Lists.{Listing, listing, listOut, listRead}
 use Rattle.stripping.proofs.Others.{map-moved, filter-all, in-filter}
@@ -87,6 +88,10 @@ module _ (g : Net) (ls : ℕ → ℕ → List ℕ) (a : ℕ) (f : fits g ≡ tru
 
   pub strip-nodes : stripped g a .rest .n ≡ g .n
   strip-nodes = second .nodes ∙ first .nodes
+
+  pub strip-freed : Freed g (stripped g a .rest)
+  strip-freed =
+      freed-on g (outgoingOut g a .rest) (stripped g a .rest) (omega (arith, first .nodes)) (omega (arith, first .edges)) (first .freed) (second .freed)
 
   pub strip-totals : stripped g a .rest .weights ≡ g .weights
   strip-totals = second .totals ∙ first .totals
