@@ -1,14 +1,16 @@
 -- Demand 1, `demand-1`, by one law: a call is its tests, each with its refusal, and then it is served. Assumes nothing.
 use Prim.{tt}
-use Prim.Native.Nat.{ℕ, suc, _+_, _-_, min}
+use Prim.Native.Nat.{ℕ, suc, _+_, _-_, _≤_, min}
 use mathlib.Core.Path.{_≡_, refl, sym, ap, subst}
 use mathlib.Core.Logic.{_⊎_, inl, inr}
 use mathlib.Core.Bool.{Bool, true, false, cond, not, _&&_}
 use mathlib.Core.List.{List, [], _∷_, _++_, map, append-nil, append-assoc}
+use native.Mathlib.Nat.{sub-zero}
+use native.Mathlib.Decide.{decLt}
 use native.Mathlib.Omega.{arith}
-use borrow.Author.Tests.{eqb-true, leb-true}
+use borrow.Author.Tests.{eqb-true, leb-true, le-leb, lt-leb}
 use lib.Dec.{eqb, ltb, leb}
-use lib.ListN.{length, getD, take}
+use lib.ListN.{length, getD, take, length-append}
 use Rattle.index.specs.declared.EdgeDirection.{EdgeDirection}
 use Rattle.index.specs.declared.EdgeDirection.the-variants.{Outgoing, Incoming}
 use Rattle.index.specs.declared.Refusal.the-variants.{Tables, Broken}
@@ -35,21 +37,24 @@ use Rattle.sound.specs.declared.Walked.{Walked}
 use Rattle.sound.specs.declared.Walked.the-variants.{Read, FaultAt}
 use Rattle.sound.specs.declared.Checked.the-variants as Checked·
 use Rattle.sound.specs.Check.{way, verdict, checked, isSound, toldChecked}
+use Rattle.sound.proofs.Literal.{right, only}
 use Rattle.links.specs.declared.Located.{Located}
 use Rattle.links.specs.declared.Located.the-variants as Located·
 use Rattle.removal.specs.Removal.{Gone, onPlace, placeOf, bypassed, lastMoved, gone, takenOut, removeEdge}
 use Rattle.closing.specs.Closing.{closedIfRoom, removeNode}
+use Rattle.closing.proofs.NodeOuts as NodeOuts
 use Rattle.layout.specs.Layout.{version, headBytes, imageLength, marked, versionIn, nodesIn, edgesIn}
 use Rattle.imagerows.specs.Image.{imageOf, loaded}
 use Rattle.loading.specs.Loading.{vacated, settled, readOne}
 use Rattle.loading.proofs.Vacated.{loaded-vacated}
 use Rattle.image.specs.Calls.{imageWrite, imageRead}
+use Rattle.image.proofs.RoundTrip as RoundTrip
 use Rattle.text.specs.Lines.{lines}
 use Rattle.commands.specs.Commands.{Replied}
 use Rattle.dispatch.specs.Step.{State, among}
-use Rattle.script.specs.Script.{mostBytes, textOf, answers, Each, ran, printed, begun, runFrom, run}
+use Rattle.script.specs.Script.{mostBytes, textOf, answers, Each, Ran, ran, printed, begun, run}
 use Rattle.script.proofs.Sayings.{run-told}
-use Rattle.demands.specs.Demand1.{ServedOr, served, refused-by, Refuses, Tells, stepRefusal, loadRefusal, firstLines, runRefusal, Demand1}
+use Rattle.demands.specs.Demand1.{ServedOr, served, refused-by, Refuses, Tells, stepRefusal, loadRefusal, linesThatFit, firstLines, runRefusal, SixExactly, Demand1}
 
 -- a number that is found in a list stands in it
 in-list : (x : ℕ) (xs : List ℕ) → among x xs ≡ true → In x xs
@@ -131,31 +136,42 @@ load-broken g bytes f t =
     refused-by 6 (in-list 6 (1 ∷ 8 ∷ 9 ∷ 2 ∷ 6 ∷ []) refl)
     (ap (out (refused Broken tt)) (loaded-vacated g bytes n m f (leb-true _ _ (rows .0)) (leb-true _ _ (rows .1))))
 
--- a run that prints its answer lines behind what is written: all of them, or the first so many, each whole
-printing : (limit : ℕ) (before : List ℕ) (texts : List (List ℕ))
-    → (count : ℕ) × ServedOr (λ r. r .number) (1 ∷ 7 ∷ []) (λ why. ran why (cond (eqb why 1) [] (before ++ firstLines count texts))) (printed limit before texts)
-unfolding printed
-printing limit before [] = (0, served refl)
-printing limit before (text ∷ others) = go (leb (length before + length text) limit) (printing limit (before ++ text) others)
-  where
-    go : (b : Bool)
-        → (count : ℕ) × ServedOr (λ r. r .number) (1 ∷ 7 ∷ []) (λ why. ran why (cond (eqb why 1) [] ((before ++ text) ++ firstLines count others))) (printed limit (before ++ text) others)
-        → (count : ℕ) × ServedOr (λ r. r .number) (1 ∷ 7 ∷ []) (λ why. ran why (cond (eqb why 1) [] (before ++ firstLines count (text ∷ others)))) (unless b (ran 7 before) (printed limit (before ++ text) others))
-    go true (count, p) = (
-      suc count,
-      subst (λ (bytes : List ℕ). ServedOr (λ r. r .number) (1 ∷ 7 ∷ []) (λ why. ran why (cond (eqb why 1) [] bytes)) (printed limit (before ++ text) others)) (append-assoc before text (firstLines count others)) p,
-    )
-    go false r = (0, refused-by 7 (in-list 7 (1 ∷ 7 ∷ []) refl) (ap (ran 7) (sym (append-nil before))))
+-- a run that prints its answer lines behind what is written: all of them, or those that fit, each whole
+module _ (limit : ℕ) where
+  abbrev stopped-at : List ℕ → List (List ℕ) → ℕ → Ran
+  stopped-at before texts why = ran why (cond (eqb why 1) [] (before ++ firstLines (linesThatFit (limit - length before) texts) texts))
 
-running : (script : List ℕ) (room : ℕ) → (count : ℕ) × ServedOr (λ r. r .number) (1 ∷ 7 ∷ []) (runRefusal script count) (run script room)
+  abbrev Prints : List ℕ → List (List ℕ) → Ran → Type 0
+  Prints before texts = ServedOr (λ r. r .number) (1 ∷ 7 ∷ []) (stopped-at before texts)
+
+  -- the first line written: those that fit behind it follow
+  after-first : (before text : List ℕ) (others : List (List ℕ)) → length before + length text ≤ limit → (r : Ran) → Prints (before ++ text) others r → Prints before (text ∷ others) r
+  after-first before text others h r p =
+      let left : limit - length (before ++ text) ≡ limit - length before - length text = rw (length-append before text) (omega arith) in
+      let bytes : (before ++ text) ++ firstLines (linesThatFit (limit - length (before ++ text)) others) others
+      ≡ before ++ firstLines (linesThatFit (limit - length before) (text ∷ others)) (text ∷ others) =
+      rw (left, le-leb (length text) (limit - length before) (omega arith)) (append-assoc before text _) in
+      subst (λ (written : List ℕ). ServedOr (λ r. r .number) (1 ∷ 7 ∷ []) (λ why. ran why (cond (eqb why 1) [] written)) r) bytes p
+
+  printing : (before : List ℕ) (texts : List (List ℕ)) → length before ≤ limit → Prints before texts (printed limit before texts)
+  unfolding printed
+  printing before [] h = served refl
+  printing before (text ∷ others) h =
+      elim (decLt limit (length before + length text)) [
+        | yes l ↦ rw (lt-leb (length before + length text) limit l)
+            (refused-by 7 (in-list 7 (1 ∷ 7 ∷ []) refl) (rw (lt-leb (length text) (limit - length before) (omega arith)) (ap (ran 7) (sym (append-nil before)))))
+        | no l ↦ rw (le-leb (length before + length text) limit (omega arith))
+            (after-first before text others (omega arith) _ (printing (before ++ text) others (rw (length-append before text) (omega arith))))
+      ]
+
+running : (script : List ℕ) (room : ℕ) → ServedOr (λ r. r .number) (1 ∷ 7 ∷ []) (runRefusal script room) (run script room)
 unfolding run
-running script room = go (leb (length script) mostBytes) (printing (min room mostBytes) [] (map textOf (answers (lines script) begun)))
-  where
-    go : (b : Bool)
-        → (count : ℕ) × ServedOr (λ r. r .number) (1 ∷ 7 ∷ []) (runRefusal script count) (runFrom begun (min room mostBytes) script)
-        → (count : ℕ) × ServedOr (λ r. r .number) (1 ∷ 7 ∷ []) (runRefusal script count) (unless b (ran 1 []) (runFrom begun (min room mostBytes) script))
-    go true r = r
-    go false r = (0, by-number 1 refl)
+running script room =
+    let limit = min room mostBytes in
+    let texts = map textOf (answers (lines script) begun) in
+    let Stopped : ℕ → Type 0 =
+    λ left. ServedOr (λ r. r .number) (1 ∷ 7 ∷ []) (λ why. ran why (cond (eqb why 1) [] (firstLines (linesThatFit left texts) texts))) (printed limit [] texts) in
+    passes-or (leb (length script) mostBytes) (by-number 1 refl) (subst Stopped (sub-zero limit) (printing limit [] texts (omega arith)))
 
 -- the number of each answer is in the list
 each-listed : (os : List (Replied State)) → Each (λ o. among (o .reply .number) (0 ∷ 2 ∷ 3 ∷ 4 ∷ 5 ∷ 10 ∷ []) ≡ true) os
@@ -215,6 +231,8 @@ demand-1 =
           (if-not (ltb a (g .n)) 3 refl
           (if-not (not (broken g 0 a) && not (broken g 1 a) && present (g .n) (around g Far a)) 6 refl (served refl)));
       check = λ g. checked-told (fits g) (way g 0) (way g 1);
+      check-right = right;
+      check-only = only;
       remove-edge =
           λ g e.
           if-not (fits g) 1 refl
@@ -229,6 +247,18 @@ demand-1 =
           (if-not (ltb a (g .n)) 3 refl
           (if-not (isSound g) 6 refl
           (if-not (leb (length (around g Weight a)) (length items)) 7 refl (served refl))));
+      remove-node-6 =
+          λ g a items f l.
+          record {
+            unsound-told = λ h. NodeOuts.unsound-6 g a items f l (λ (ls, S). h ls S);
+            told-unsound = λ h ls S. NodeOuts.six-unsound g a items f l h (ls, S);
+          };
+      image-write-6 =
+          λ g bytes f.
+          record {
+            unsound-told = λ h. ap (λ (o : Out ℕ (List ℕ)). o .answer .number) (RoundTrip.unsound-6 g bytes f h);
+            told-unsound = λ h ls S. RoundTrip.six-unsound g bytes ls S h;
+          };
       image-write = λ g bytes. if-not (fits g) 1 refl (if-not (isSound g) 6 refl (giving (imageOf g) bytes refl));
       image-read =
           λ g bytes.
