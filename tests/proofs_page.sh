@@ -1,34 +1,46 @@
 #!/usr/bin/env bash
-# docs/PROOFS.md: every name under 'Shown by' is declared in a file that stands beside it, and its list of edits is the list of crates/*/must-fail.
+# docs/PROOFS.md: every name behind 'Shown by' is declared in a file behind 'In', and its edits are those of crates/*/must-fail.
 set -euo pipefail
 cd "$(dirname "${BASH_SOURCE[0]}")/.."
 page=docs/PROOFS.md
 failed=0
 
-# line, name and files of each name in backticks; 'the same' stands for the files of the row above, and a path of no crate is of the crate named last
+# an item of the page on one line: its first line's number, and its text
+items() {
+    awk '
+        function tell() { if (item) print line "\t" item; item = "" }
+        /^- / { tell(); line = NR; item = substr($0, 3); next }
+        /^  [^ ]/ && item { item = item " " substr($0, 3); next }
+        { tell() }
+        END { tell() }' "$page"
+}
+
+# line, name and files of each name in backticks; 'the same' stands for the files of the item above, and a path of no crate is of the crate named last
 names() {
-    awk -F'|' '
-        /^\| The order / { table = 1; next }
-        /^\|/ { if (!table || /^\|---/) next }
-        !/^\|/ { table = 0; next }
+    items | awk -F'\t' '
+        !/ Shown by: .* In: / { next }
         {
-            count = split($4, places, /[;,] */)
+            text = $2
+            sub(/^.* Shown by: /, "", text)
+            where = text
+            sub(/^.* In: /, "", where)
+            sub(/\.$/, "", where)
+            sub(/ In: .*$/, "", text)
+            count = split(where, places, /[;,] */)
             files = ""
             for (i = 1; i <= count; i++) {
                 place = places[i]
-                gsub(/^ +| +$/, "", place)
                 if (place == "the same") { files = files " " above; continue }
                 if (match(place, /^crates\/[a-z]+/)) crate = substr(place, RSTART, RLENGTH)
                 else if (place ~ /^(src|specs|proofs)(\/|$)/) place = crate "/" place
                 files = files " " place
             }
             above = files
-            text = $3
             while (match(text, /`[^`]+`/)) {
-                print NR "\t" substr(text, RSTART + 1, RLENGTH - 2) "\t" files
+                print $1 "\t" substr(text, RSTART + 1, RLENGTH - 2) "\t" files
                 text = substr(text, RSTART + RLENGTH)
             }
-        }' "$page"
+        }'
 }
 
 # a declaration of antt, or of Rattle; elsewhere the name as a word
@@ -49,7 +61,7 @@ while IFS=$'\t' read -r line name places; do
 done < <(names)
 
 edits() { for edit in crates/*/must-fail/*.edit; do edit=${edit#crates/} edit=${edit%.edit}; echo "${edit/\/must-fail\///}"; done | sort; }
-told() { awk -F'|' '/^\| Wrong answer / { table = 1; next } !/^\|/ { table = 0 } table && !/^\|---/ { print $3 }' "$page" | tr ',' '\n' | sed 's/^ *//; s/ *$//' | sort; }
+told() { items | sed -n 's/^.* Edit: \(.*\)\. No longer holds: .*$/\1/p' | tr ',' '\n' | sed 's/^ *//; s/ *$//' | sort; }
 diff <(edits) <(told) || { echo "$page: '<' is an edit that is not told, '>' is no edit"; failed=1; }
 
 [ "$failed" -eq 0 ] || { echo "proofs page: FAILED"; exit 1; }
