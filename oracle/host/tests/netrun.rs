@@ -9,8 +9,9 @@ use std::time::Duration;
 use oracle::generate::script;
 
 fn netrun() -> Command {
-    let program = concat!(env!("CARGO_MANIFEST_DIR"), "/../../target/bin/netrun");
+    let program = concat!(env!("CARGO_MANIFEST_DIR"), "/../../tools/program.sh");
     let mut command = Command::new(program);
+    command.arg("netrun");
     command.stdout(Stdio::piped()).stderr(Stdio::piped());
     command
 }
