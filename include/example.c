@@ -35,8 +35,8 @@ int main(void) {
            found[0]);
 
     answer = net_remove_edge(TABLES, n, &m, 0, &weight, &moved, &rows);
-    printf("remove edge: answer %" PRIu32 ", register number %" PRIu32 ", %s, %" PRIu32 " rows read\n", answer,
-           weight, moved == NET_END ? "no row moved" : "a row moved", rows);
+    printf("remove edge: answer %" PRIu32 ", register number %" PRIu32 ", %s, %" PRIu32 " rows read\n",
+           answer, weight, moved == NET_END ? "no row moved" : "a row moved", rows);
 
     answer = net_remove_edge(TABLES, n, &m, 0, &weight, &moved, &rows);
     printf("once more: answer %" PRIu32 ", no such edge\n", answer);

@@ -1,7 +1,7 @@
 #!/usr/bin/env bash
-# The header's example, include/example.c: compiled by gcc against the static libraries that `rt staticlib` has
-# written (or those of the directory WATERWAYS_LIB), run, and held to include/example.out. The header is read
-# by itself, too, as C and where there is g++ as C++.
+# The header's example, include/example.c: compiled by gcc against the static libraries that `rt staticlib`
+# has written (or those of the directory WATERWAYS_LIB), run, and held to include/example.out. The header is
+# read by itself, too, as C and where there is g++ as C++.
 set -euo pipefail
 cd "$(dirname "${BASH_SOURCE[0]}")/.."
 lib=${WATERWAYS_LIB:-target/staticlib}
