@@ -134,13 +134,15 @@ uint32_t net_all_edge_weights(
     const uint32_t *ends, size_t ends_len, uint32_t n, uint32_t m, uint32_t *items, size_t items_len,
     uint32_t *count);
 
-/* Takes out all edges; their rows become vacant. Reads no edge row, and writes m. Refused 1. */
+/* Takes out all edges; their rows become vacant. Reads no edge row; writes m of them, and n heads. Refused
+   1. */
 uint32_t net_clear_edges(
     const int32_t *weights, size_t weights_len, uint32_t *heads, size_t heads_len,
     uint32_t *registers, size_t registers_len, uint32_t *links, size_t links_len,
     uint32_t *ends, size_t ends_len, uint32_t n, uint32_t *m);
 
-/* Takes out all nodes and edges; their rows become vacant. Reads no edge row, and writes m. Refused 1. */
+/* Takes out all nodes and edges; their rows become vacant. Reads no edge row; writes all rows in use. Refused
+   1. */
 uint32_t net_clear(
     int32_t *weights, size_t weights_len, uint32_t *heads, size_t heads_len,
     uint32_t *registers, size_t registers_len, uint32_t *links, size_t links_len,

@@ -32,7 +32,9 @@ def run(*words: str | Path) -> subprocess.CompletedProcess:
 
 class Pictures(unittest.TestCase):
     def setUp(self):
-        self.folder = Path(self.enterContext(tempfile.TemporaryDirectory()))
+        folder = tempfile.TemporaryDirectory()
+        self.addCleanup(folder.cleanup)
+        self.folder = Path(folder.name)
         self.image = self.folder / "a.image"
         self.image.write_bytes(network_a().image_write())
 
