@@ -1,4 +1,5 @@
 """Pictures, and the commands of the module."""
+import re
 import shutil
 import subprocess
 import sys
@@ -61,6 +62,11 @@ class Pictures(unittest.TestCase):
             told = run("-m", "waterways", "draw", self.image, "-o", self.folder / name)
             self.assertEqual((told.returncode, told.stderr), (0, ""))
             self.assertTrue((self.folder / name).read_bytes().startswith(begins))
+
+    def test_the_picture_on_the_first_page(self):
+        svg = (PYTHON.parent / "docs" / "network_a.svg").read_text()
+        labels = re.findall(r">([^<>]+)</text>", svg)
+        self.assertEqual(sorted(labels), sorted("0 5 1 -3 2 8 10 11 12 13".split()))
 
     def test_network_a_is_the_example(self):
         told = run(PYTHON / "network_a.py")
