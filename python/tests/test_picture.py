@@ -1,4 +1,5 @@
 """Pictures, and the commands of the module."""
+import html
 import re
 import shutil
 import subprocess
@@ -64,7 +65,7 @@ class Pictures(unittest.TestCase):
             self.assertTrue((self.folder / name).read_bytes().startswith(begins))
 
     def test_the_picture_on_the_first_page(self):
-        svg = (PYTHON.parent / "docs" / "network_a.svg").read_text()
+        svg = html.unescape((PYTHON.parent / "docs" / "network_a.svg").read_text())
         labels = re.findall(r">([^<>]+)</text>", svg)
         self.assertEqual(sorted(labels), sorted("0 5 1 -3 2 8 10 11 12 13".split()))
 
