@@ -8,5 +8,9 @@ libraries=("$lib"/lib{exportrows,exportlists,exportremovals}.a)
 for library in "${libraries[@]}"; do
     [ -f "$library" ] || { echo "python/build.sh: no $library (make staticlib writes it)" >&2; exit 1; }
 done
+if [ -z "${WATERWAYS_LIB:-}" ] && [[ $(gcc -dumpmachine) != x86_64-* ]]; then
+    echo "python/build.sh: the libraries are for x86-64, and gcc is for $(gcc -dumpmachine)" >&2
+    exit 1
+fi
 gcc -shared -o "${WATERWAYS_SO:-target/libwaterways.so}" \
     -Wl,--whole-archive "${libraries[@]}" -Wl,--no-whole-archive

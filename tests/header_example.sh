@@ -5,6 +5,10 @@
 set -euo pipefail
 cd "$(dirname "${BASH_SOURCE[0]}")/.."
 lib=${WATERWAYS_LIB:-target/staticlib}
+if [ -z "${WATERWAYS_LIB:-}" ] && [[ $(gcc -dumpmachine) != x86_64-* ]]; then
+    echo "header example: FAILED, the libraries are for x86-64, and gcc is for $(gcc -dumpmachine)"
+    exit 1
+fi
 work=$(mktemp -d)
 trap 'rm -rf "$work"' EXIT
 

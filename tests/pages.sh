@@ -1,7 +1,7 @@
 #!/usr/bin/env bash
-# The pages for readers: no line is longer than 110 characters; every file that they name is there; docs/CRATES.md
-# has the crates of crates.txt, each once; and docs/DIFFERENCES.md names the tests of rust/tests/differences.rs,
-# all of them and no other.
+# The pages for readers: no line is longer than 110 characters; every file that they name is there;
+# docs/CRATES.md has the crates of crates.txt, each once; and docs/DIFFERENCES.md names the tests of
+# rust/tests/differences.rs, all of them and no other.
 set -euo pipefail
 cd "$(dirname "${BASH_SOURCE[0]}")/.."
 export LC_ALL=C.UTF-8
@@ -14,11 +14,13 @@ for file in "${pages[@]}" bench/head.md include/* python/*.* python/waterways/*.
     [ -z "$long" ] || fail "$file has lines of more than 110 characters: $long"
 done
 
-# A file with its folder and an ending, seen from the root or from the page. The names of other projects' files
-# begin otherwise.
-named='(crates|docs|include|make|oracle|python|rust|tests|bench)/[A-Za-z0-9_./-]*\.(antt|c|h|md|out|py|rs|rt|script|sh|svg|txt)'
+# A file with its folder and an ending, seen from the root or from the page. The names of other projects'
+# files begin otherwise.
+folders='crates|docs|include|make|oracle|python|rust|tests|bench'
+endings='antt|c|h|md|out|py|rs|rt|script|sh|svg|txt'
+named="(^|[^A-Za-z0-9_./])($folders)/[A-Za-z0-9_./-]*\.($endings)"
 for page in "${pages[@]}"; do
-    for path in $({ grep -oE "(^|[^A-Za-z0-9_./])$named" "$page" || true; } | sed -E 's,^[^a-z]*,,' | sort -u); do
+    for path in $({ grep -oE "$named" "$page" || true; } | sed -E 's,^[^a-z]*,,' | sort -u); do
         [ -e "$path" ] || [ -e "$(dirname "$page")/$path" ] || fail "$page names $path, which is not there"
     done
 done
@@ -27,12 +29,14 @@ listed() { sed -nE 's/^([a-z]+):.*/\1/p' crates.txt | sort; }
 told() { sed -nE 's/^\| `([a-z]+)` \|.*/\1/p' docs/CRATES.md | sort; }
 diff <(listed) <(told) || fail "docs/CRATES.md: '<' is a crate that it lacks, '>' is none"
 
-tests() { awk '/^#\[test\]/ { getline; sub(/^fn /, ""); sub(/\(.*/, ""); print }' rust/tests/differences.rs | sort; }
+tests() {
+    awk '/^#\[test\]/ { getline; sub(/^fn /, ""); sub(/\(.*/, ""); print }' rust/tests/differences.rs | sort
+}
 shown() {
     {
         # the last column of a table, and what stands behind 'Test'
         sed -nE 's/^\|.*\| `([a-z_]+)` \|$/\1/p' docs/DIFFERENCES.md
-        tr '\n' ' ' <docs/DIFFERENCES.md | grep -oE 'Input and test: +`[a-z_]+`|Tests?: +`[a-z_]+`' | sed -E 's/.*`(.*)`/\1/'
+        tr '\n' ' ' <docs/DIFFERENCES.md | grep -oE '[Tt]ests?: +`[a-z_]+`' | sed -E 's/.*`(.*)`/\1/'
     } | sort -u
 }
 diff <(tests) <(shown) || fail "docs/DIFFERENCES.md: '<' is a test that it does not name, '>' is none"
