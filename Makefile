@@ -1,4 +1,4 @@
-# What `make run` answers, and what `make compare` runs: scripts 0 to COUNT - 1 of a seed.
+# What `make run` and `make try` answer, and what `make compare` runs: scripts 0 to COUNT - 1 of a seed.
 SCRIPT ?= oracle/tests/network_a.script
 SEED ?= 1
 COUNT ?= 20000
@@ -9,11 +9,15 @@ SOURCES = crates.txt $(shell find crates -name '*.rt' -o -name '*.antt')
 run: target/bin/netrun
 	@target/bin/netrun < $(SCRIPT)
 
+# In seconds, by the sources as they are. Nothing is proved by it.
+try:
+	@make/try.sh $(SCRIPT)
+
 test:
 	bash .ci/run
 
 check:
-	rt check
+	@make/prove.sh
 
 oracle:
 	cargo test $(CARGO) --workspace
@@ -28,29 +32,32 @@ replay:
 
 # Static libraries for C, Rust and Python; include/waterways.h has their calls.
 staticlib:
-	rt staticlib exportrows
-	rt staticlib exportlists
-	rt staticlib exportremovals
+	@make/staticlib.sh exportrows exportlists exportremovals
+
+# The header's example.
+example: staticlib
+	tests/header_example.sh
 
 rust: staticlib
 	cargo test --release --offline --manifest-path rust/Cargo.toml
 
 # How fast it is beside graph.rs, and petgraph where it is installed: prints, and writes docs/BENCH.md.
 bench: staticlib target/staticlib/libscript.a
-	rt staticlib loops
+	@make/staticlib.sh loops
 	bench/run.sh
 
 python: staticlib
 	python/build.sh
+	python3 -m unittest discover -s python -t python
 	python3 python/network_a.py
 
 # Both are proved first, with what they stand on. What has not changed since is not proved again.
 target/bin/netrun: $(SOURCES)
-	@rt check netrun >&2
+	@make/prove.sh netrun >&2
 	@touch $@
 
 target/staticlib/libscript.a: $(SOURCES)
-	@rt staticlib script >&2
+	@make/staticlib.sh script >&2
 
 .DELETE_ON_ERROR:
-.PHONY: run test check oracle compare replay staticlib rust bench python
+.PHONY: run try test check oracle compare replay staticlib example rust bench python

@@ -4,17 +4,24 @@
      weights    one cell a node row: its total
      heads      two cells a node row: the first edge of its outgoing and of its incoming list
      registers  one cell an edge row: its register number
-     links      two cells an edge row: the next edge of its source's outgoing and of its target's incoming list
+     links      two cells an edge row: the next edge of its source's outgoing list, and of its target's
+                incoming list
      ends       two cells an edge row: its source and its target
      n, m       how many rows of each kind are in use; by pointer where the call changes them
-   Each table goes in as a pointer and its number of cells. A call takes every table, count and number: what it
-   cannot serve it refuses. What C itself must hold to: each pointer is valid for its cells and is not null, also
-   for 0 cells, and nothing lent to one call overlaps.
+   Each table goes in as a pointer and its number of cells. A call takes every table, count and number: what
+   it cannot serve it refuses. What C itself must hold to: each pointer is valid for its cells and is not
+   null, also for 0 cells, and nothing lent to one call overlaps.
 
-   Every call returns an answer number; its values are left in the cells that are its last parameters. A refusal
-   leaves zeros in these and changes no table, count, walker or output, except where its call says so. The numbers
-   that a call can be refused by end its comment, in the order of the tests. An output keeps its cells past the
-   items given. */
+   Every call returns an answer number; its values are left in the cells that are its last parameters. A
+   refusal leaves zeros in these and changes no table, count, walker or output, except where its call says so.
+   The numbers that a call can be refused by end its comment, in the order of the tests. An output keeps its
+   cells past the items given.
+
+   Before these numbers stands what the call reads, in edge rows. D is the number of edges in the longest
+   list, d that of the edges of the node. Lengths and counts are tested first, which reads no row: so 1 costs
+   the same everywhere.
+
+   include/example.c is a whole program, which tests/header_example.sh compiles and runs. */
 #ifndef WATERWAYS_H
 #define WATERWAYS_H
 
@@ -27,25 +34,26 @@ extern "C" {
 
 enum net_answer {
     NET_DONE = 0,
-    NET_TABLES = 1,      /* rows above the limit, n or m above the rows lent, tables that disagree in rows; a script too long */
-    NET_FULL = 2,        /* no row for one more; image counts above the rows lent */
-    NET_NO_NODE = 3,     /* the named node is not below n */
-    NET_NO_EDGE = 4,     /* the named edge is not below m */
-    NET_NOTHING = 5,     /* nothing found; NET_END at a first or next edge; a walker at its end */
-    NET_BROKEN = 6,      /* broken links */
-    NET_SHORT = 7,       /* the output holds fewer items than the answer needs */
-    NET_NOT_IMAGE = 8,   /* an image that is too short, has a wrong mark or a wrong length */
-    NET_VERSION = 9,     /* an image of an unknown version */
+    NET_TABLES = 1,       /* rows above the limit, n or m above the rows lent, tables that disagree in rows;
+                             a script too long */
+    NET_FULL = 2,         /* no row for one more; image counts above the rows lent */
+    NET_NO_NODE = 3,      /* the named node is not below n */
+    NET_NO_EDGE = 4,      /* the named edge is not below m */
+    NET_NOTHING = 5,      /* nothing found; NET_END at a first or next edge; a walker at its end */
+    NET_BROKEN = 6,       /* broken links */
+    NET_SHORT = 7,        /* the output holds fewer items than the answer needs */
+    NET_NOT_IMAGE = 8,    /* an image that is too short, has a wrong mark or a wrong length */
+    NET_VERSION = 9,      /* an image of an unknown version */
     NET_NOT_COMMAND = 10, /* a script line that is no command */
     /* No call gives these yet. */
-    NET_TAKEN = 11,      /* the directory's entry of that register number names a row */
-    NET_BEYOND = 12,     /* a register number that is not below the directory's length */
-    NET_NOT_BARE = 13,   /* a node to be dropped that still has edges */
-    NET_NO_RANKING = 14, /* lists that no ranking of the edges gives */
-    NET_OUTSIDE = 15,    /* outside the planning profile */
-    NET_TOO_DEEP = 16,   /* a walk that would stand 65 nodes deep */
-    NET_FELL = 17,       /* a counter lower than the last */
-    NET_OVERFLOW = 18    /* a weight that would leave 32 bits */
+    NET_TAKEN = 11,       /* the directory's entry of that register number names a row */
+    NET_BEYOND = 12,      /* a register number that is not below the directory's length */
+    NET_NOT_BARE = 13,    /* a node to be dropped that still has edges */
+    NET_NO_RANKING = 14,  /* lists that no ranking of the edges gives */
+    NET_OUTSIDE = 15,     /* outside the planning profile */
+    NET_TOO_DEEP = 16,    /* a walk that would stand 65 nodes deep */
+    NET_FELL = 17,        /* a counter lower than the last */
+    NET_OVERFLOW = 18     /* a weight that would leave 32 bits */
 };
 
 /* No row: the end of a list, and what a vacant row holds in its links and ends. Its weight is 0. */
@@ -59,19 +67,19 @@ enum net_answer {
 
 /* Rows: looked up, set, added, listed, cleared (libexportrows.a) */
 
-/* The weight of node a. Refused 1, 3. */
+/* The weight of node a. Reads no edge row. Refused 1, 3. */
 uint32_t net_node_weight(
     const int32_t *weights, size_t weights_len, const uint32_t *heads, size_t heads_len,
     const uint32_t *registers, size_t registers_len, const uint32_t *links, size_t links_len,
     const uint32_t *ends, size_t ends_len, uint32_t n, uint32_t m, uint32_t a, int32_t *weight);
 
-/* The weight (register number) of edge e. Refused 1, 4. */
+/* The weight (register number) of edge e. Reads row e. Refused 1, 4. */
 uint32_t net_edge_weight(
     const int32_t *weights, size_t weights_len, const uint32_t *heads, size_t heads_len,
     const uint32_t *registers, size_t registers_len, const uint32_t *links, size_t links_len,
     const uint32_t *ends, size_t ends_len, uint32_t n, uint32_t m, uint32_t e, uint32_t *weight);
 
-/* Source and target of edge e. Refused 1, 4. */
+/* Source and target of edge e. Reads row e. Refused 1, 4. */
 uint32_t net_edge_endpoints(
     const int32_t *weights, size_t weights_len, const uint32_t *heads, size_t heads_len,
     const uint32_t *registers, size_t registers_len, const uint32_t *links, size_t links_len,
@@ -79,59 +87,62 @@ uint32_t net_edge_endpoints(
     uint32_t *target);
 
 /* The first edge of node a in a direction: 0 outgoing, any other number incoming. A link past m is given as
-   it is; NET_END is 5. Refused 1, 3, 5. */
+   it is; NET_END is 5. Reads no edge row. Refused 1, 3, 5. */
 uint32_t net_first_edge(
     const int32_t *weights, size_t weights_len, const uint32_t *heads, size_t heads_len,
     const uint32_t *registers, size_t registers_len, const uint32_t *links, size_t links_len,
     const uint32_t *ends, size_t ends_len, uint32_t n, uint32_t m, uint32_t a, uint32_t direction,
     uint32_t *edge);
 
-/* The edge after edge e in a direction. Refused 1, 4, 5. */
+/* The edge after edge e in a direction. Reads row e. Refused 1, 4, 5. */
 uint32_t net_next_edge(
     const int32_t *weights, size_t weights_len, const uint32_t *heads, size_t heads_len,
     const uint32_t *registers, size_t registers_len, const uint32_t *links, size_t links_len,
     const uint32_t *ends, size_t ends_len, uint32_t n, uint32_t m, uint32_t e, uint32_t direction,
     uint32_t *edge);
 
-/* Sets the weight of node a. Refused 1, 3. */
+/* Sets the weight of node a. Reads no edge row. Refused 1, 3. */
 uint32_t net_set_node_weight(
     int32_t *weights, size_t weights_len, const uint32_t *heads, size_t heads_len,
     const uint32_t *registers, size_t registers_len, const uint32_t *links, size_t links_len,
     const uint32_t *ends, size_t ends_len, uint32_t n, uint32_t m, uint32_t a, int32_t w);
 
-/* Sets the weight of edge e. Refused 1, 4. */
+/* Sets the weight of edge e. Reads no edge row. Refused 1, 4. */
 uint32_t net_set_edge_weight(
     const int32_t *weights, size_t weights_len, const uint32_t *heads, size_t heads_len,
     uint32_t *registers, size_t registers_len, const uint32_t *links, size_t links_len,
     const uint32_t *ends, size_t ends_len, uint32_t n, uint32_t m, uint32_t e, uint32_t w);
 
-/* One more node of weight w; its number. Refused 1, 2. */
+/* One more node of weight w; its number. Reads no edge row. Refused 1, 2. */
 uint32_t net_add_node(
     int32_t *weights, size_t weights_len, uint32_t *heads, size_t heads_len,
     const uint32_t *registers, size_t registers_len, const uint32_t *links, size_t links_len,
     const uint32_t *ends, size_t ends_len, uint32_t *n, uint32_t m, int32_t w, uint32_t *node);
 
-/* One more edge from a to b; its number. It stands first in both its lists. Refused 1, 2, 3. */
+/* One more edge from a to b; its number. It stands first in both its lists. Reads no edge row. Refused 1, 2,
+   3. */
 uint32_t net_add_edge(
     const int32_t *weights, size_t weights_len, uint32_t *heads, size_t heads_len,
     uint32_t *registers, size_t registers_len, uint32_t *links, size_t links_len,
     uint32_t *ends, size_t ends_len, uint32_t n, uint32_t *m, uint32_t a, uint32_t b, uint32_t w,
     uint32_t *edge);
 
-/* The weights of all edges, in row order; how many. Reads no list. Refused 1, 7. */
+/* The weights of all edges, in row order; how many. Reads m rows, and no list. Refused 1, 7. */
 uint32_t net_all_edge_weights(
     const int32_t *weights, size_t weights_len, const uint32_t *heads, size_t heads_len,
     const uint32_t *registers, size_t registers_len, const uint32_t *links, size_t links_len,
     const uint32_t *ends, size_t ends_len, uint32_t n, uint32_t m, uint32_t *items, size_t items_len,
     uint32_t *count);
 
-/* Takes out all edges; their rows become vacant. Refused 1. */
+/* Takes out all edges; their rows become vacant. Reads no edge row; writes m of them, and n heads. Refused
+   1. */
 uint32_t net_clear_edges(
     const int32_t *weights, size_t weights_len, uint32_t *heads, size_t heads_len,
     uint32_t *registers, size_t registers_len, uint32_t *links, size_t links_len,
     uint32_t *ends, size_t ends_len, uint32_t n, uint32_t *m);
 
-/* Takes out all nodes and edges; their rows become vacant. Refused 1. */
+/* Takes out all nodes and edges; their rows become vacant. Reads no edge row; writes all rows in use. Refused
+   1. */
 uint32_t net_clear(
     int32_t *weights, size_t weights_len, uint32_t *heads, size_t heads_len,
     uint32_t *registers, size_t registers_len, uint32_t *links, size_t links_len,
@@ -140,36 +151,40 @@ uint32_t net_clear(
 /* Lists: walks, searches, the walker, the sum, the check (libexportlists.a) */
 
 /* The neighbours of node a: its outgoing list, then its incoming one without self-loops; how many. Parallel
-   edges repeat. A missing node has none. Refused 1, 6, 7. */
+   edges repeat. A missing node has none. Reads at most m rows of each list, twice, or three times where the
+   output is shorter than the lists. Refused 1, 6, 7. */
 uint32_t net_neighbors(
     const int32_t *weights, size_t weights_len, const uint32_t *heads, size_t heads_len,
     const uint32_t *registers, size_t registers_len, const uint32_t *links, size_t links_len,
     const uint32_t *ends, size_t ends_len, uint32_t n, uint32_t m, uint32_t a,
     uint32_t *items, size_t items_len, uint32_t *count);
 
-/* The weights of the edges of the neighbour walk; how many. Refused 1, 6, 7. */
+/* The weights of the edges of the neighbour walk; how many. Reads what net_neighbors reads. Refused 1, 6, 7.
+   */
 uint32_t net_edge_weights(
     const int32_t *weights, size_t weights_len, const uint32_t *heads, size_t heads_len,
     const uint32_t *registers, size_t registers_len, const uint32_t *links, size_t links_len,
     const uint32_t *ends, size_t ends_len, uint32_t n, uint32_t m, uint32_t a,
     uint32_t *items, size_t items_len, uint32_t *count);
 
-/* The numbers of the edges of the neighbour walk whose far end is b; how many. Refused 1, 6, 7. */
+/* The numbers of the edges of the neighbour walk whose far end is b; how many. Reads what net_neighbors
+   reads. Refused 1, 6, 7. */
 uint32_t net_edges_between(
     const int32_t *weights, size_t weights_len, const uint32_t *heads, size_t heads_len,
     const uint32_t *registers, size_t registers_len, const uint32_t *links, size_t links_len,
     const uint32_t *ends, size_t ends_len, uint32_t n, uint32_t m, uint32_t a, uint32_t b,
     uint32_t *items, size_t items_len, uint32_t *count);
 
-/* The numbers of the edges of node a, incoming ones first; how many. A self-loop comes twice. Refused 1, 6,
-   7. */
+/* The numbers of the edges of node a, incoming ones first; how many. A self-loop comes twice. Reads what
+   net_neighbors reads. Refused 1, 6, 7. */
 uint32_t net_edges_mut(
     const int32_t *weights, size_t weights_len, const uint32_t *heads, size_t heads_len,
     const uint32_t *registers, size_t registers_len, const uint32_t *links, size_t links_len,
     const uint32_t *ends, size_t ends_len, uint32_t n, uint32_t m, uint32_t a,
     uint32_t *items, size_t items_len, uint32_t *count);
 
-/* The rows of graph.rs's mutable weights: the numbers of net_edges_mut. Refused 1, 6, 7. */
+/* The rows of graph.rs's mutable weights: the numbers of net_edges_mut. Reads what net_neighbors reads.
+   Refused 1, 6, 7. */
 uint32_t net_edge_weights_mut(
     const int32_t *weights, size_t weights_len, const uint32_t *heads, size_t heads_len,
     const uint32_t *registers, size_t registers_len, const uint32_t *links, size_t links_len,
@@ -177,7 +192,7 @@ uint32_t net_edge_weights_mut(
     uint32_t *items, size_t items_len, uint32_t *count);
 
 /* Number, source and target of each edge of the neighbour walk, the ends of incoming ones turned round; how
-   many. Refused 1, 6, 7. */
+   many. Reads what net_neighbors reads. Refused 1, 6, 7. */
 uint32_t net_edges(
     const int32_t *weights, size_t weights_len, const uint32_t *heads, size_t heads_len,
     const uint32_t *registers, size_t registers_len, const uint32_t *links, size_t links_len,
@@ -185,50 +200,54 @@ uint32_t net_edges(
     uint32_t *numbers, size_t numbers_len, uint32_t *sources, size_t sources_len,
     uint32_t *targets, size_t targets_len, uint32_t *count);
 
-/* The first edge of a whose far end is b: the outgoing list, then the incoming one. Refused 1, 3 (node a
-   only), 5, 6. */
+/* The first edge of a whose far end is b: the outgoing list, then the incoming one. Reads at most m rows of
+   each list, and none behind the match. Refused 1, 3 (node a only), 5, 6. */
 uint32_t net_find_edge(
     const int32_t *weights, size_t weights_len, const uint32_t *heads, size_t heads_len,
     const uint32_t *registers, size_t registers_len, const uint32_t *links, size_t links_len,
     const uint32_t *ends, size_t ends_len, uint32_t n, uint32_t m, uint32_t a, uint32_t b, uint32_t *edge);
 
-/* 1 where there is such an edge, else 0; a missing node has none. Refused 1, 6. */
+/* 1 where there is such an edge, else 0; a missing node has none. Reads what net_find_edge reads. Refused 1,
+   6. */
 uint32_t net_contains_edge(
     const int32_t *weights, size_t weights_len, const uint32_t *heads, size_t heads_len,
     const uint32_t *registers, size_t registers_len, const uint32_t *links, size_t links_len,
     const uint32_t *ends, size_t ends_len, uint32_t n, uint32_t m, uint32_t a, uint32_t b, uint32_t *found);
 
-/* Sets the weight of the edge that is found, even in a full table; else adds one. Its number. Refused 1, 6,
-   2, 3. */
+/* Sets the weight of the edge that is found, even in a full table; else adds one. Its number. Reads what
+   net_find_edge reads. Refused 1, 6, 2, 3. */
 uint32_t net_update_edge(
     const int32_t *weights, size_t weights_len, uint32_t *heads, size_t heads_len,
     uint32_t *registers, size_t registers_len, uint32_t *links, size_t links_len,
     uint32_t *ends, size_t ends_len, uint32_t n, uint32_t *m, uint32_t a, uint32_t b, uint32_t w,
     uint32_t *edge);
 
-/* The sum of the weights of the neighbours of node a, negative kept. Refused 1, 3, 6. */
+/* The sum of the weights of the neighbours of node a, negative kept. Reads at most m rows of each list, once.
+   Refused 1, 3, 6. */
 uint32_t net_sum_around(
     const int32_t *weights, size_t weights_len, const uint32_t *heads, size_t heads_len,
     const uint32_t *registers, size_t registers_len, const uint32_t *links, size_t links_len,
     const uint32_t *ends, size_t ends_len, uint32_t n, uint32_t m, uint32_t a, int64_t *sum);
 
 /* The check: accepts exactly the sound networks, and gives the rows read, 2 m. At 6 it gives direction and
-   node of the first fault, node n where some edge is in no list. Refused 1, 6. */
+   node of the first fault, node n where some edge is in no list. Reads at most 2 m rows. Refused 1, 6. */
 uint32_t net_check(
     const int32_t *weights, size_t weights_len, const uint32_t *heads, size_t heads_len,
     const uint32_t *registers, size_t registers_len, const uint32_t *links, size_t links_len,
     const uint32_t *ends, size_t ends_len, uint32_t n, uint32_t m, uint32_t *rows, uint32_t *direction,
     uint32_t *node);
 
-/* A walker is three numbers: the node where it started, its next outgoing and its next incoming edge.
-   A walker at the heads of node a's two lists. A missing node's is at its end. Refused 1. */
+/* A walker is three numbers: the node where it started, its next outgoing and its next incoming edge. A
+   walker at the heads of node a's two lists. A missing node's is at its end. A refusal leaves three zeros.
+   Reads no edge row. Refused 1. */
 uint32_t net_walker_new(
     const int32_t *weights, size_t weights_len, const uint32_t *heads, size_t heads_len,
     const uint32_t *registers, size_t registers_len, const uint32_t *links, size_t links_len,
     const uint32_t *ends, size_t ends_len, uint32_t n, uint32_t m, uint32_t a, uint32_t walker[3]);
 
 /* The walker, moved on by one neighbour. At 5 it stands where the Rust's stands, at 6 and at 1 it is as it
-   was. Refused 1, 5, 6. */
+   was. Reads one row of the outgoing list; behind that list at most m of the incoming one: the self-loops
+   skipped, and the neighbour's. Refused 1, 5, 6. */
 uint32_t net_walker_next(
     const int32_t *weights, size_t weights_len, const uint32_t *heads, size_t heads_len,
     const uint32_t *registers, size_t registers_len, const uint32_t *links, size_t links_len,
@@ -236,8 +255,9 @@ uint32_t net_walker_next(
 
 /* Removals and images (libexportremovals.a) */
 
-/* Takes out edge e: its weight, the old number of the row that moved into its place (NET_END where none
-   did), the rows read. Refused 1, 4, 6. */
+/* Takes out edge e: its weight, the old number of the row that moved into its place (NET_END where none did),
+   the rows read. Reads the rows that it tells, at most 4 (D - 1) in a sound network, never more than 4 m;
+   besides these row e and the last. Refused 1, 4, 6. */
 uint32_t net_remove_edge(
     const int32_t *weights, size_t weights_len, uint32_t *heads, size_t heads_len,
     uint32_t *registers, size_t registers_len, uint32_t *links, size_t links_len,
@@ -245,23 +265,25 @@ uint32_t net_remove_edge(
     uint32_t *rows);
 
 /* Takes out node a with its edges; the last node takes its place. Its weight, the rows read, and how many
-   edge weights stand in items. Only a sound network is changed. Refused 1, 3, 6, 7. */
+   edge weights stand in items. Only a sound network is changed. Checks the whole network first, 2 m rows;
+   counts the d edges; then reads the rows that it tells, at most 3 d (D - 1) + 2 D. Refused 1, 3, 6, 7. */
 uint32_t net_remove_node(
     int32_t *weights, size_t weights_len, uint32_t *heads, size_t heads_len,
     uint32_t *registers, size_t registers_len, uint32_t *links, size_t links_len,
     uint32_t *ends, size_t ends_len, uint32_t *n, uint32_t *m, uint32_t a, uint32_t *items, size_t items_len,
     int32_t *weight, uint64_t *rows, uint32_t *count);
 
-/* The image of a sound network at the front of bytes; its length, 13 + 12 n + 20 m. Refused 1, 6, 7. */
+/* The image of a sound network at the front of bytes; its length, 13 + 12 n + 20 m. Checks the whole network
+   first, 2 m rows, then reads each row once. Refused 1, 6, 7. */
 uint32_t net_image_write(
     const int32_t *weights, size_t weights_len, const uint32_t *heads, size_t heads_len,
     const uint32_t *registers, size_t registers_len, const uint32_t *links, size_t links_len,
     const uint32_t *ends, size_t ends_len, uint32_t n, uint32_t m, uint8_t *bytes, size_t bytes_len,
     uint32_t *length);
 
-/* The network that an image has, in place of the one lent; rows past its counts become vacant. A network
-   that is not sound is refused 6 and leaves all rows vacant, n = m = 0. Refused 1, 8 (short or mark), 9, 2, 8
-   (length), 6. */
+/* The network that an image has, in place of the one lent; rows past its counts become vacant. A network that
+   is not sound is refused 6 and leaves all rows vacant, n = m = 0. Writes every row lent, then checks what it
+   has stored, 2 m rows. Refused 1, 8 (short or mark), 9, 2, 8 (length), 6. */
 uint32_t net_image_read(
     int32_t *weights, size_t weights_len, uint32_t *heads, size_t heads_len,
     uint32_t *registers, size_t registers_len, uint32_t *links, size_t links_len,
@@ -270,8 +292,9 @@ uint32_t net_image_read(
 /* Scripts (libscript.a) */
 
 /* Runs a script of at most 16,384 bytes from an empty network, and writes its answer lines to out, whole ones
-   only and at most 16,384 bytes. Returns the answer number times 2^32, plus the bytes written: 0, or 7 where a
-   line did not fit; or 1, and nothing written, for a script too long. No byte past those written is touched. */
+   only and at most 16,384 bytes. Returns the answer number times 2^32, plus the bytes written: 0, or 7 where
+   a line did not fit; or 1, and nothing written, for a script too long. No byte past those written is
+   touched. Each line reads what its call reads. */
 uint64_t net_run(const uint8_t *script, size_t script_len, uint8_t *out, size_t out_len);
 
 #ifdef __cplusplus

@@ -1,0 +1,1 @@
+"""Tests of the module `waterways`: python3 -m unittest discover -s python -t python."""
