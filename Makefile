@@ -7,7 +7,7 @@ CARGO = --release --offline --manifest-path oracle/Cargo.toml
 SOURCES = crates.txt $(shell find crates -name '*.rt' -o -name '*.antt')
 
 run: target/bin/netrun
-	@target/bin/netrun < $(SCRIPT)
+	@make/program.sh netrun < $(SCRIPT)
 
 # In seconds, by the sources as they are. Nothing is proved by it.
 try:

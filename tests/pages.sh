@@ -5,11 +5,11 @@
 set -euo pipefail
 cd "$(dirname "${BASH_SOURCE[0]}")/.."
 export LC_ALL=C.UTF-8
-pages=(README.md NOTICE oracle/README.md docs/{ANSWERS,COMMANDS,CRATES,DIFFERENCES,LANGUAGES,TRUST}.md)
+pages=(README.md NOTICE oracle/README.md docs/{ANSWERS,COMMANDS,CRATES,DECISIONS,DIFFERENCES,LANGUAGES,PROOFS,TRUST}.md)
 failed=0
 fail() { echo "pages: $*"; failed=1; }
 
-for file in "${pages[@]}" bench/head.md include/* python/*.* python/waterways/*.py python/tests/*.py; do
+for file in "${pages[@]}" bench/head.md bench/limits.md include/* python/*.* python/waterways/*.py python/tests/*.py; do
     long=$({ grep -nE '^.{111,}$' "$file" || true; } | cut -d: -f1 | tr '\n' ' ')
     [ -z "$long" ] || fail "$file has lines of more than 110 characters: $long"
 done

@@ -138,7 +138,11 @@ const LOST_HEAD: Call = Rows(&[(5, [0, END])], &[]);
 /// Edge 0 stands in two incoming lists.
 const LINKED_TWICE: Call = Rows(
     &[(0, [2, 0]), (0, [END, 0])],
-    &[(60, [END, 1], [0, 0]), (61, [0, 2], [0, 1]), (62, [1, END], [0, 1])],
+    &[
+        (60, [END, 1], [0, 0]),
+        (61, [0, 2], [0, 1]),
+        (62, [1, END], [0, 1]),
+    ],
 );
 
 /// The networks that calls are tried on, each by the calls that make it.

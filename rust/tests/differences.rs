@@ -11,7 +11,7 @@ use std::thread;
 use std::time::Duration;
 
 use common::{Graph, tables_of};
-use oracle::graph::{self, Edge, Node, UnGraph};
+use oracle::graph::{self, UnGraph};
 use waterways::{
     EDGE_ROWS, END, EdgeDirection, EdgeIndex, EdgeRemoved, Fault, NODE_ROWS, Network, NodeIndex,
     NodeRemoved, Refusal, Tables,
@@ -46,53 +46,18 @@ fn both(tables: Tables) -> (Network, Graph) {
     (Network::from_tables(tables), graph)
 }
 
-/// graph.rs on the rows of any tables. Its links are closed to us, but its rows can be copied: each is taken
-/// from a graph in which an edge, or a node, has just these links.
+/// graph.rs on the rows of any tables.
 fn graph_of(t: &Tables) -> Graph {
-    let mut graph = Graph::default();
-    for _ in 0..t.n {
-        graph.add_node(0);
-    }
-    for _ in 0..t.m {
-        graph.add_edge(graph::NodeIndex(0), graph::NodeIndex(0), 0);
-    }
-    for (a, node) in graph.raw_nodes_mut().iter_mut().enumerate() {
-        *node = node_row(t.weights[a], [t.heads[2 * a], t.heads[2 * a + 1]]);
-    }
-    for (e, edge) in graph.raw_edges_mut().iter_mut().enumerate() {
-        let links = [t.links[2 * e], t.links[2 * e + 1]];
-        *edge = edge_row(t.registers[e], links, [t.ends[2 * e], t.ends[2 * e + 1]]);
-    }
+    let pair = |column: &[u32], row: usize| [column[2 * row], column[2 * row + 1]];
+    let nodes: Vec<_> = (0..t.n as usize)
+        .map(|a| (t.weights[a], pair(&t.heads, a)))
+        .collect();
+    let edges: Vec<_> = (0..t.m as usize)
+        .map(|e| (t.registers[e], pair(&t.links, e), pair(&t.ends, e)))
+        .collect();
+    let graph = oracle::of_rows(&nodes, &edges);
     assert_eq!(&tables_of(&graph, t.weights.len(), t.registers.len()), t);
     graph
-}
-
-/// Edges up to those that the links name: each of these at its own end, all other ends at `other`.
-fn edges_for(graph: &mut Graph, links: [u32; 2], ends: [u32; 2], other: u32) {
-    let named = links.into_iter().filter(|link| *link != END);
-    for e in 0..named.max().map_or(0, |last| last + 1) {
-        let end = |k: usize| graph::NodeIndex(if links[k] == e { ends[k] } else { other });
-        graph.add_edge(end(0), end(1), 0);
-    }
-}
-
-fn node_row(weight: i32, heads: [u32; 2]) -> Node<i32> {
-    let mut graph = Graph::default();
-    graph.add_node(weight);
-    graph.add_node(0);
-    edges_for(&mut graph, heads, [0, 0], 1);
-    graph.raw_nodes()[0]
-}
-
-fn edge_row(weight: u32, links: [u32; 2], ends: [u32; 2]) -> Edge<u32> {
-    let mut graph = Graph::default();
-    let other = ends[0].max(ends[1]) + 1;
-    for _ in 0..=other {
-        graph.add_node(0);
-    }
-    edges_for(&mut graph, links, ends, other);
-    let e = graph.add_edge(graph::NodeIndex(ends[0]), graph::NodeIndex(ends[1]), weight);
-    graph.raw_edges()[e.index()]
 }
 
 /// Whether graph.rs panics.

@@ -9,7 +9,7 @@ use std::time::Duration;
 use oracle::generate::script;
 
 fn netrun() -> Command {
-    let program = concat!(env!("CARGO_MANIFEST_DIR"), "/../../tools/program.sh");
+    let program = concat!(env!("CARGO_MANIFEST_DIR"), "/../../make/program.sh");
     let mut command = Command::new(program);
     command.arg("netrun");
     command.stdout(Stdio::piped()).stderr(Stdio::piped());

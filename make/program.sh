@@ -1,7 +1,6 @@
 #!/usr/bin/env bash
-# usage: tools/program.sh NAME
-# Runs target/bin/NAME, a program that `rt` has proved and built. It is built for x86-64; on another machine it
-# runs as `rt` runs it, under the kit's emulator.
+# Runs target/bin/NAME, a program that `rt` has proved and built: make/program.sh NAME. It is built for x86-64;
+# on another machine it runs as `rt` runs it, under the kit's emulator.
 set -euo pipefail
 program=$(dirname "${BASH_SOURCE[0]}")/../target/bin/$1
 machine=$(uname -m)
