@@ -7,7 +7,8 @@ use Rattle.tables.specs.Net.{Net, fits}
 use Rattle.sound.specs.Sound.{Sound}
 use Rattle.alike.specs.Calls.{AsRust}
 use Rattle.alike.proofs.Cells.{node-count, edge-count}
-use Rattle.alike.proofs.Single.{add-node, node-weight, edge-weight, edge-weight-mut, edge-endpoints, all-edge-weights, first-edge, next-edge, clear-all, clear-edges, set-node-weight, set-edge-weight}
+use Rattle.alike.proofs.Single.{add-node, node-weight, edge-weight, edge-weight-mut, edge-endpoints, all-edge-weights}
+use Rattle.alike.proofs.Single.{first-edge, next-edge, clear-all, clear-edges, set-node-weight, set-edge-weight}
 use Rattle.alike.proofs.Finding.{add-edge-so, update-edge, update-ends, contains-edge, find-edge}
 use Rattle.alike.proofs.Walking.{neighbors-given, edges-given, edges-between, edge-weights}
 use Rattle.alike.proofs.Mutable.{edges-mut}
