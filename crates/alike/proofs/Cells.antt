@@ -1,4 +1,4 @@
--- One cell of a network written is one field of a row written: a head, `head-led`; a link, `link-led`; an end, `end-led`. Assumes nothing.
+-- One cell of a network written is one field of a row written: a head, `head-led`; a link, `link-led`; an end, `end-led`.
 use Prim.Native.Nat.{ℕ, _+_, _*_, _-_, _≤_, _<_}
 use mathlib.Core.Path.{_≡_, refl, ap}
 use mathlib.Core.Bool.{true, not}

@@ -1,5 +1,4 @@
 -- `remove_node_with` on a sound network: it ends and does not panic; its weight, the weights that it gives out and its rows afterwards are ours.
--- Assumes nothing.
 use Prim.Native.Nat.{ℕ, suc, _-_, _≤_, _<_}
 use mathlib.Core.Path.{_≡_, refl, sym, ap, ap₂, _∙_}
 use mathlib.Core.Bool.{true}

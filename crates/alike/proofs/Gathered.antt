@@ -1,4 +1,4 @@
--- Every call on every sound network that fits: what the Rust makes of its rows is what ours tells and leaves. Assumes nothing.
+-- Every call on every sound network that fits: what the Rust makes of its rows is what ours tells and leaves.
 use Prim.Native.Nat.{ℕ}
 use mathlib.Core.Path.{_≡_}
 use mathlib.Core.Bool.{true}

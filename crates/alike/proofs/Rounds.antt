@@ -1,4 +1,4 @@
--- The iterators around a node of a sound network: they end, and give the rows of its lists. Assumes nothing.
+-- The iterators around a node of a sound network: they end, and give the rows of its lists.
 use Prim.Native.Nat.{ℕ, zero, suc, _+_, _≤_, _<_}
 use mathlib.Core.Path.{_≡_, refl, _∙_}
 use mathlib.Core.Bool.{Bool, true, false, cond, not}

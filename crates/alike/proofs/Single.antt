@@ -1,4 +1,4 @@
--- The calls on one row, the adds and the clears: on every network that fits they tell and leave what the Rust does. Assumes nothing.
+-- The calls on one row, the adds and the clears: on every network that fits they tell and leave what the Rust does.
 use Prim.{tt}
 use Prim.Native.Nat.{ℕ, zero, suc, _*_, _≤_, _<_}
 use mathlib.Core.Path.{_≡_, refl, sym, ap, ap₂, _∙_}

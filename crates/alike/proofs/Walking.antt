@@ -1,4 +1,4 @@
--- The walks around a node of a sound network give what the Rust's iterators give. Assumes nothing.
+-- The walks around a node of a sound network give what the Rust's iterators give.
 use Prim.Native.Nat.{ℕ, suc, _+_, _≤_, _<_}
 use mathlib.Core.Path.{_≡_, refl, sym, ap, ap₂, _∙_}
 use mathlib.Core.Bool.{Bool, true, false, cond, not}

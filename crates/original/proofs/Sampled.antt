@@ -1,4 +1,4 @@
--- Every recorded case comes out as graph.rs was recorded to do. Assumes nothing.
+-- Every recorded case comes out as graph.rs was recorded to do.
 use mathlib.Core.Path.{_≡_, refl}
 use mathlib.Core.List.{map}
 use Rattle.original.specs.Rust.{«add_node», «node_weight», «add_edge», «edge_weight», «edge_weight_mut», «edge_endpoints», leadPast, changeLinksOf}

@@ -1,4 +1,4 @@
--- Network A is accepted with 8 rows; with one cell changed, each kind of fault is found in each direction. Assumes nothing.
+-- Network A is accepted with 8 rows; with one cell changed, each kind of fault is found in each direction.
 use Prim.Native.Nat.{ℕ}
 use mathlib.Core.Path.{_≡_, refl}
 use mathlib.Core.List.{List, [], _∷_}

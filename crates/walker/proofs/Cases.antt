@@ -1,4 +1,4 @@
--- The walker and the sum on network A of the order, and on small networks with self-loops and broken rows, computed. Assumes nothing.
+-- The walker and the sum on network A of the order, and on small networks with self-loops and broken rows, computed.
 use Prim.Native.Nat.{ℕ}
 use mathlib.Core.Path.{_≡_, refl}
 use mathlib.Core.List.{[], _∷_}

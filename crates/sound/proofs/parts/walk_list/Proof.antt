@@ -1,5 +1,5 @@
 -- `parts::walk_list` meets its contract. The loop's invariant: `e` stands at some spot, and to walk on from there with the rows that
--- are left gives what the whole walk gives. Assumes nothing.
+-- are left gives what the whole walk gives.
 use Prim.Native.Nat.{_-_, _^_, _≤_, _<_}
 use mathlib.Core.Path.{_≡_, refl, sym, _∙_}
 use native.Mathlib.Omega.{arith}

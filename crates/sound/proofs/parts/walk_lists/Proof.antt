@@ -1,4 +1,4 @@
--- `parts::walk_lists` meets its contract. The loop's invariant: `rows` rows are read in the lists of the nodes below a. Assumes nothing.
+-- `parts::walk_lists` meets its contract. The loop's invariant: `rows` rows are read in the lists of the nodes below a.
 use Prim.Native.Nat.{_-_, _≤_}
 use mathlib.Core.Path.{_≡_, refl, sym, _∙_}
 use native.Mathlib.Omega.{arith}
