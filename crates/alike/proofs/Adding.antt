@@ -1,4 +1,4 @@
--- `add_edge`, on every network that fits and has a row free: a self-loop becomes both heads of its node. Assumes nothing.
+-- `add_edge`, on every network that fits and has a row free: a self-loop becomes both heads of its node.
 use Prim.Native.Nat.{ℕ, _+_, _≤_, _<_}
 use mathlib.Core.Path.{_≡_, refl, sym, ap, ap₂, _∙_}
 use mathlib.Core.Logic.{_⊎_, inl, inr}

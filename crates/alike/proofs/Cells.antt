@@ -1,4 +1,4 @@
--- One cell of a network written is one field of a row written: a head, `head-led`; a link, `link-led`; an end, `end-led`. Assumes nothing.
+-- One cell of a network written is one field of a row written: a head, `head-led`; a link, `link-led`; an end, `end-led`.
 use Prim.Native.Nat.{ℕ, _+_, _*_, _-_, _≤_, _<_}
 use mathlib.Core.Path.{_≡_, refl, ap}
 use mathlib.Core.Bool.{true, not}
@@ -76,19 +76,18 @@ module _ (g : Net) where
   pub far-at : (e k : ℕ) → k < 2 → edgeAt g e .node ! (1 - k) ≡ endAt g (1 - k) e
   far-at e = two (λ k. edgeAt g e .node ! (1 - k) ≡ endAt g (1 - k) e) refl refl
 
--- the two cells of row a in a column, with cell k written
+-- the first two cells of a row, which begins at cell p of its column, with cell k of them written; and those of a row that begins at r
 abbrev pairAt : List ℕ → ℕ → Two
-pairAt column a = (getD column (2 * a + 0) 0, getD column (2 * a + 1) 0)
+pairAt column p = (getD column (p + 0) 0, getD column (p + 1) 0)
 
-pair-set : (column : List ℕ) (a v : ℕ) → 2 * a + 1 < length column → (k : ℕ) → k < 2 → pairAt (set column (2 * a + k) v) a ≡ put (pairAt column a) k v
-pair-set column a v h =
-    two (λ k. pairAt (set column (2 * a + k) v) a ≡ put (pairAt column a) k v)
-    (rw (getD-set-same column (2 * a + 0) v 0 (omega arith), getD-set-other column (2 * a + 0) (2 * a + 1) v 0 (omega arith)))
-    (rw (getD-set-same column (2 * a + 1) v 0 h, getD-set-other column (2 * a + 1) (2 * a + 0) v 0 (omega arith)))
+pair-set : (column : List ℕ) (p v : ℕ) → p + 1 < length column → (k : ℕ) → k < 2 → pairAt (set column (p + k) v) p ≡ put (pairAt column p) k v
+pair-set column p v h =
+    two (λ k. pairAt (set column (p + k) v) p ≡ put (pairAt column p) k v)
+    (rw (getD-set-same column (p + 0) v 0 (omega arith), getD-set-other column (p + 0) (p + 1) v 0 (omega arith)))
+    (rw (getD-set-same column (p + 1) v 0 h, getD-set-other column (p + 1) (p + 0) v 0 (omega arith)))
 
-pair-off : (column : List ℕ) (a b k v : ℕ) → k < 2 → (b ≡ a → ⊥) → pairAt (set column (2 * a + k) v) b ≡ pairAt column b
-pair-off column a b k v h d =
-    rw (getD-set-other column (2 * a + k) (2 * b + 0) v 0 (λ q. d (omega arith)), getD-set-other column (2 * a + k) (2 * b + 1) v 0 (λ q. d (omega arith)))
+pair-off : (column : List ℕ) (p r k v : ℕ) → (r + 0 ≡ p + k → ⊥) → (r + 1 ≡ p + k → ⊥) → pairAt (set column (p + k) v) r ≡ pairAt column r
+pair-off column p r k v f s = rw (getD-set-other column (p + k) (r + 0) v 0 f, getD-set-other column (p + k) (r + 1) v 0 s)
 
 module _ (g : Net) (k v : ℕ) (hk : k < 2) where
   pub head-led : (a : ℕ) → a < g .n → nodeCells * g .n ≤ length (g .heads)
@@ -96,24 +95,24 @@ module _ (g : Net) (k v : ℕ) (hk : k < 2) where
       ≡ rowsBelow (g .n) (nodeAt (withNodes g (g .weights) (set (g .heads) (nodeCell a k) v)))
   head-led a l h =
       set-is (g .n) (nodeAt g) (nodeAt (withNodes g (g .weights) (set (g .heads) (nodeCell a k) v))) a _ l
-      (ap (nodeWithNext (nodeAt g a)) (pair-set (g .heads) a v (omega arith) k hk))
-      (λ b m d. ap (nodeWithNext (nodeAt g b)) (pair-off (g .heads) a b k v hk d))
+      (ap (nodeWithNext (nodeAt g a)) (pair-set (g .heads) (nodeCells * a) v (omega arith) k hk))
+      (λ b m d. ap (nodeWithNext (nodeAt g b)) (pair-off (g .heads) (nodeCells * a) (nodeCells * b) k v (λ q. d (omega arith)) (λ q. d (omega arith))))
 
   pub link-led : (e : ℕ) → e < g .m → edgeCells * g .m ≤ length (g .links)
       → set (rowsBelow (g .m) (edgeAt g)) e (edgeWithNext (edgeAt g e) (put (edgeAt g e .next) k v))
       ≡ rowsBelow (g .m) (edgeAt (withEdges g (g .registers) (set (g .links) (edgeCell e k) v) (g .ends)))
   link-led e l h =
       set-is (g .m) (edgeAt g) (edgeAt (withEdges g (g .registers) (set (g .links) (edgeCell e k) v) (g .ends))) e _ l
-      (ap (edgeWithNext (edgeAt g e)) (pair-set (g .links) e v (omega arith) k hk))
-      (λ x m d. ap (edgeWithNext (edgeAt g x)) (pair-off (g .links) e x k v hk d))
+      (ap (edgeWithNext (edgeAt g e)) (pair-set (g .links) (edgeCells * e) v (omega arith) k hk))
+      (λ x m d. ap (edgeWithNext (edgeAt g x)) (pair-off (g .links) (edgeCells * e) (edgeCells * x) k v (λ q. d (omega arith)) (λ q. d (omega arith))))
 
   pub end-led : (e : ℕ) → e < g .m → edgeCells * g .m ≤ length (g .ends)
       → set (rowsBelow (g .m) (edgeAt g)) e (edgeWithNode (edgeAt g e) (put (edgeAt g e .node) k v))
       ≡ rowsBelow (g .m) (edgeAt (withEdges g (g .registers) (g .links) (set (g .ends) (edgeCell e k) v)))
   end-led e l h =
       set-is (g .m) (edgeAt g) (edgeAt (withEdges g (g .registers) (g .links) (set (g .ends) (edgeCell e k) v))) e _ l
-      (ap (edgeWithNode (edgeAt g e)) (pair-set (g .ends) e v (omega arith) k hk))
-      (λ x m d. ap (edgeWithNode (edgeAt g x)) (pair-off (g .ends) e x k v hk d))
+      (ap (edgeWithNode (edgeAt g e)) (pair-set (g .ends) (edgeCells * e) v (omega arith) k hk))
+      (λ x m d. ap (edgeWithNode (edgeAt g x)) (pair-off (g .ends) (edgeCells * e) (edgeCells * x) k v (λ q. d (omega arith)) (λ q. d (omega arith))))
 
 -- a column with the two cells of row l copied over those of row e
 pub copied : (column : List ℕ) (e l x k : ℕ) → edgeCell e 1 < length column → k < 2

@@ -1,5 +1,4 @@
 -- `remove_node_with` on a sound network: it ends and does not panic; its weight, the weights that it gives out and its rows afterwards are ours.
--- Assumes nothing.
 use Prim.Native.Nat.{ℕ, suc, _-_, _≤_, _<_}
 use mathlib.Core.Path.{_≡_, refl, sym, ap, ap₂, _∙_}
 use mathlib.Core.Bool.{true}
@@ -149,7 +148,9 @@ module _ (g : Net) (ls : ℕ → ℕ → List ℕ) (a : ℕ) (f : fits g ≡ tru
           _,
           node-taken l,
           (
-            (λ room. rw (f, lt-ltb a (g .n) l, sound-accepted g ls f S, le-leb (length (around g Weight a)) (length items) (omega (arith, room, ap length (given-are g ls a f S l)))) (refl, refl, refl)),
+            (λ room.
+                let r = le-leb (length (around g Weight a)) (length items) (omega (arith, room, ap length (given-are g ls a f S l))) in
+                rw (f, lt-ltb a (g .n) l, sound-accepted g ls f S, r) (refl, refl, refl)),
             (λ short. rw (f, lt-ltb a (g .n) l, sound-accepted g ls f S, lt-leb (length (around g Weight a)) (length items) (omega (arith, short, ap length (given-are g ls a f S l))))),
           ),
         )

@@ -1,5 +1,5 @@
 -- The loops of `remove_node_with` that take out a node's edges, on a sound network: they end, no `expect` panics, and they leave what our
--- stripping leaves. Assumes nothing.
+-- stripping leaves.
 use Prim.Native.Nat.{ℕ, zero, suc, _-_, _≤_, _<_}
 use mathlib.Core.Path.{_≡_, ap}
 use mathlib.Core.Bool.{true}

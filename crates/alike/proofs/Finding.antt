@@ -1,5 +1,5 @@
 -- `find_edge` on every network that fits: the search of the Rust is ours, and goes on for ever exactly where ours is broken, `find-run`.
--- In a sound network it ends: `find-edge`, `contains-edge`. `update_edge` finds, or adds: `update-edge`. Assumes nothing.
+-- In a sound network it ends: `find-edge`, `contains-edge`. `update_edge` finds, or adds: `update-edge`.
 use Prim.Native.Nat.{ℕ, zero, suc, _-_, _<_}
 use mathlib.Core.Path.{_≡_, refl}
 use mathlib.Core.Bool.{Bool, true, false, cond, not}

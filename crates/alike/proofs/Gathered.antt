@@ -1,4 +1,4 @@
--- Every call on every sound network that fits: what the Rust makes of its rows is what ours tells and leaves. Assumes nothing.
+-- Every call on every sound network that fits: what the Rust makes of its rows is what ours tells and leaves.
 use Prim.Native.Nat.{ℕ}
 use mathlib.Core.Path.{_≡_}
 use mathlib.Core.Bool.{true}
@@ -7,7 +7,8 @@ use Rattle.tables.specs.Net.{Net, fits}
 use Rattle.sound.specs.Sound.{Sound}
 use Rattle.alike.specs.Calls.{AsRust}
 use Rattle.alike.proofs.Cells.{node-count, edge-count}
-use Rattle.alike.proofs.Single.{add-node, node-weight, edge-weight, edge-weight-mut, edge-endpoints, all-edge-weights, first-edge, next-edge, clear-all, clear-edges, set-node-weight, set-edge-weight}
+use Rattle.alike.proofs.Single.{add-node, node-weight, edge-weight, edge-weight-mut, edge-endpoints, all-edge-weights}
+use Rattle.alike.proofs.Single.{first-edge, next-edge, clear-all, clear-edges, set-node-weight, set-edge-weight}
 use Rattle.alike.proofs.Finding.{add-edge-so, update-edge, update-ends, contains-edge, find-edge}
 use Rattle.alike.proofs.Walking.{neighbors-given, edges-given, edges-between, edge-weights}
 use Rattle.alike.proofs.Mutable.{edges-mut}

@@ -1,4 +1,4 @@
--- What an iterator gives, item by item, and what it comes to when all its items are collected. Assumes nothing.
+-- What an iterator gives, item by item, and what it comes to when all its items are collected.
 use Prim.Native.Nat.{ℕ, zero, suc, _-_, _≤_, _<_}
 use mathlib.Core.Path.{_≡_, refl, sym, ap, _∙_}
 use mathlib.Core.Bool.{Bool, true, false, cond}

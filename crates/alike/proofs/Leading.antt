@@ -1,5 +1,5 @@
 -- `change_edge_links` on any network that fits: where our searches find the two links to an edge, the Rust's walks lead the same two
--- elsewhere, and no others. Assumes nothing.
+-- elsewhere, and no others.
 use Prim.Native.Nat.{ℕ, zero, suc, _+_, _*_, _-_, _≤_, _<_}
 use mathlib.Core.Path.{_≡_, refl, sym, ap, _∙_, fun-ext}
 use mathlib.Core.List.{List}

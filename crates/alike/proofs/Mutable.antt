@@ -1,4 +1,4 @@
--- `edges_mut` and `edge_weights_mut` in a sound network: they end, no `graph[edge]` panics, and they give the rows that ours gives. Assumes nothing.
+-- `edges_mut` and `edge_weights_mut` in a sound network: they end, no `graph[edge]` panics, and they give the rows that ours gives.
 use Prim.Native.Nat.{ℕ, _≤_, _<_}
 use mathlib.Core.Path.{_≡_, refl, sym, ap₂, _∙_}
 use mathlib.Core.Bool.{true, cond}

@@ -1,5 +1,4 @@
 -- The loops of `remove_node_with` that give the moved node's edges its new number: they end, no assertion fails, and the ends are ours.
--- Assumes nothing.
 use Prim.Native.Nat.{ℕ, zero, suc, _*_, _≤_, _<_}
 use mathlib.Core.Path.{_≡_, refl, _∙_}
 use mathlib.Core.Logic.{inl, inr}

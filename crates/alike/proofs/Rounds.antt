@@ -1,4 +1,4 @@
--- The iterators around a node of a sound network: they end, and give the rows of its lists. Assumes nothing.
+-- The iterators around a node of a sound network: they end, and give the rows of its lists.
 use Prim.Native.Nat.{ℕ, zero, suc, _+_, _≤_, _<_}
 use mathlib.Core.Path.{_≡_, refl, _∙_}
 use mathlib.Core.Bool.{Bool, true, false, cond, not}
@@ -67,8 +67,14 @@ module _ {A : Type 0} (items : Items A) (g : Net) (small : g .m ≤ END) (a : �
           → GivesFirst (nextIncoming items turns) (nextAround items) rest (map incoming (filter other ys))
           → GivesFirst (nextIncoming items (g .m)) (nextAround items) rest (map incoming (filter other ys))
           → GivesFirst (nextIncoming items (suc turns)) (nextAround items) (at END (linkAt g 1 s)) (map incoming (cond (not b) (y ∷ filter other ys) (filter other ys)))
-      go true q skip keep = step-first (nextIncoming items (suc turns)) (nextIncoming items turns) (nextAround items) (at END (linkAt g 1 s)) rest (map incoming (filter other ys)) (rw (c .0, got (g .m) (edgeAt g) y (c .1), q)) skip
-      go false q skip keep = (rest, rw (c .0, got (g .m) (edgeAt g) y (c .1), q), same-first (nextIncoming items (g .m)) (nextAround items) rest (map incoming (filter other ys)) (alone (linkAt g 1 (After y))) keep)
+      go true q skip keep =
+          step-first (nextIncoming items (suc turns)) (nextIncoming items turns) (nextAround items) (at END (linkAt g 1 s)) rest (map incoming (filter other ys))
+          (rw (c .0, got (g .m) (edgeAt g) y (c .1), q)) skip
+      go false q skip keep = (
+        rest,
+        rw (c .0, got (g .m) (edgeAt g) y (c .1), q),
+        same-first (nextIncoming items (g .m)) (nextAround items) rest (map incoming (filter other ys)) (alone (linkAt g 1 (After y))) keep,
+      )
 
   outgoing-all : (xs : List ℕ) (s : Spot) (i : ℕ) (zs : List A) → Chain (linkAt g 0) (g .m) s xs → Gives (nextAround items) (at END i) zs
       → Gives (nextAround items) (at (linkAt g 0 s) i) (map outgoing xs ++ zs)

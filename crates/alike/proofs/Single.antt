@@ -1,4 +1,4 @@
--- The calls on one row, the adds and the clears: on every network that fits they tell and leave what the Rust does. Assumes nothing.
+-- The calls on one row, the adds and the clears: on every network that fits they tell and leave what the Rust does.
 use Prim.{tt}
 use Prim.Native.Nat.{ℕ, zero, suc, _*_, _≤_, _<_}
 use mathlib.Core.Path.{_≡_, refl, sym, ap, ap₂, _∙_}
@@ -26,7 +26,8 @@ use Rattle.lookups.specs.Lookups.{linkTold, nodeWeight, edgeWeight, edgeEndpoin
 use Rattle.rows.specs.Calls.{addNode, allEdgeWeights, clear, clearEdges}
 use Rattle.sound.proofs.Kept.{fitOf, first-cell, second-cell, other-cell}
 use Rattle.original.specs.Std.{onOption, _!_, push}
-use Rattle.original.specs.Rust.{Node, Edge, graph, nodeWithNext, edgeWeighing, «node_weight», «edge_weight», «edge_weight_mut», «edge_endpoints», «first_edge», «next_edge», «add_node», «clear_edges», «index_mut_node», «index_mut_edge»}
+use Rattle.original.specs.Rust.{Node, Edge, graph, nodeWithNext, edgeWeighing}
+use Rattle.original.specs.Rust.{«node_weight», «edge_weight», «edge_weight_mut», «edge_endpoints», «first_edge», «next_edge», «add_node», «clear_edges», «index_mut_node», «index_mut_edge»}
 use Rattle.original.specs.Rust as Rust
 use Rattle.original.specs.Iterators.{«all_edge_weights»}
 use Rattle.alike.specs.Same.{nodeAt, edgeAt, rowsBelow, rowsOf, optionTold, runTold, valueless, seen}
@@ -85,7 +86,8 @@ module _ (g : Net) (f : fits g ≡ true) where
         | no l ↦ rw (f, le-ltb a (g .n) (omega arith), got-past (g .n) (nodeAt g) a (omega arith))
       ]
     where
-      head-told : (d : EdgeDirection) → linkTold (getD (g .heads) (nodeCell a (numberOf d)) 0) ≡ optionTold Nothing 0 (cond (eqb (nodeAt g a .next ! numberOf d) END) none (some (nodeAt g a .next ! numberOf d)))
+      head-told : (d : EdgeDirection) → linkTold (getD (g .heads) (nodeCell a (numberOf d)) 0)
+          ≡ optionTold Nothing 0 (cond (eqb (nodeAt g a .next ! numberOf d) END) none (some (nodeAt g a .next ! numberOf d)))
       head-told Outgoing = link-told (getD (g .heads) (nodeCell a 0) 0)
       head-told Incoming = link-told (getD (g .heads) (nodeCell a 1) 0)
 
@@ -97,7 +99,8 @@ module _ (g : Net) (f : fits g ≡ true) where
         | no l ↦ rw (f, le-ltb e (g .m) (omega arith), got-past (g .m) (edgeAt g) e (omega arith))
       ]
     where
-      next-told : (d : EdgeDirection) → linkTold (getD (g .links) (edgeCell e (numberOf d)) 0) ≡ optionTold Nothing 0 (cond (eqb (edgeAt g e .next ! numberOf d) END) none (some (edgeAt g e .next ! numberOf d)))
+      next-told : (d : EdgeDirection) → linkTold (getD (g .links) (edgeCell e (numberOf d)) 0)
+          ≡ optionTold Nothing 0 (cond (eqb (edgeAt g e .next ! numberOf d) END) none (some (edgeAt g e .next ! numberOf d)))
       next-told Outgoing = link-told (getD (g .links) (edgeCell e 0) 0)
       next-told Incoming = link-told (getD (g .links) (edgeCell e 1) 0)
 

@@ -1,5 +1,5 @@
 -- The walker beside the iterator of `neighbors`, on every network that fits and wherever the walker stands: it begins where the iterator
--- begins, `begins`, and a step is a `next`, `steps`, which goes on for ever exactly where the step is broken. Assumes nothing.
+-- begins, `begins`, and a step is a `next`, `steps`, which goes on for ever exactly where the step is broken.
 use Prim.Native.Nat.{ℕ, zero, suc}
 use mathlib.Core.Path.{_≡_, refl}
 use mathlib.Core.Bool.{Bool, true, false, cond, not}

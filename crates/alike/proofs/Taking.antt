@@ -1,5 +1,5 @@
 -- `remove_edge` on a sound network: the Rust's rows afterwards are ours. The row that moves is sought by the Rust after it has moved, by
--- ours before: neither search meets that row, nor the one whose place it takes. Assumes nothing.
+-- ours before: neither search meets that row, nor the one whose place it takes.
 use Prim.Native.Nat.{ℕ, zero, suc, _+_, _-_, _≤_, _<_}
 use mathlib.Core.Path.{_≡_, refl, sym, ap, ap₂, _∙_, subst}
 use mathlib.Core.Logic.{inl, inr}

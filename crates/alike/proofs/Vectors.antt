@@ -1,4 +1,4 @@
--- The first rows of a table as a vector: its length, a row of it got or set, its last row taken off. Assumes nothing.
+-- The first rows of a table as a vector: its length, a row of it got or set, its last row taken off.
 use Prim.Native.Nat.{ℕ, zero, suc, _+_, _-_, _≤_, _<_}
 use mathlib.Core.Path.{_≡_, refl, sym, ap, ap₂, _∙_}
 use mathlib.Core.List.{List, [], _∷_, map}

@@ -1,4 +1,4 @@
--- The walks around a node of a sound network give what the Rust's iterators give. Assumes nothing.
+-- The walks around a node of a sound network give what the Rust's iterators give.
 use Prim.Native.Nat.{ℕ, suc, _+_, _≤_, _<_}
 use mathlib.Core.Path.{_≡_, refl, sym, ap, ap₂, _∙_}
 use mathlib.Core.Bool.{Bool, true, false, cond, not}
@@ -55,7 +55,8 @@ module _ (h : EdgeReference → ℕ) (p : EdgeReference → Bool) where
   sift-one i q [] = refl
   sift-one i q (y ∷ ys) = go (p (i y)) (sift-one i q ys)
     where
-      go : (b : Bool) → map h (sift p (map i ys)) ≡ filter (λ y. p (i y)) ys → map h (cond b (i y ∷ sift p (map i ys)) (sift p (map i ys))) ≡ cond b (y ∷ filter (λ y. p (i y)) ys) (filter (λ y. p (i y)) ys)
+      go : (b : Bool) → map h (sift p (map i ys)) ≡ filter (λ y. p (i y)) ys
+          → map h (cond b (i y ∷ sift p (map i ys)) (sift p (map i ys))) ≡ cond b (y ∷ filter (λ y. p (i y)) ys) (filter (λ y. p (i y)) ys)
       go true r = ap₂ (λ (z : ℕ) (l : List ℕ). z ∷ l) (q y) r
       go false r = r
 

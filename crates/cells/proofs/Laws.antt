@@ -1,4 +1,4 @@
--- An answer taken apart is told as the call told it, and what the call left stands beside it. Assumes nothing.
+-- An answer taken apart is told as the call told it, and what the call left stands beside it.
 use mathlib.Core.Path.{_≡_, ap, _∙_}
 use Rattle.tables.specs.Answers.{Told, Out, out}
 

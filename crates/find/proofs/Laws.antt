@@ -1,17 +1,13 @@
--- What the first match of a list says of the search of both, and what a search comes to. Assumes nothing.
+-- What the first match of a list says of the search of both; the row that a search finds is below m.
 use Prim.Native.Nat.{ℕ, _-_, _<_}
 use mathlib.Core.Path.{_≡_, refl, sym, ap}
 use mathlib.Core.Bool.{Bool, true, false, cond}
 use mathlib.Core.List.{List, [], _∷_}
 use mathlib.Core.Logic.{_⊎_, inl, inr, ⊎-elim}
-use borrow.Author.Tests.{lt-ltb}
 use native.Mathlib.Omega.{arith}
 use lib.Dec.{ltb}
-use lib.ListN.{getD, set}
-use Rattle.tables.specs.Net.{Net, fits, withEdges, nodeCell}
-use Rattle.tables.specs.Answers.{out, done, refused}
-use Rattle.index.specs.declared.Refusal.the-variants.{Nothing, Broken}
-use Rattle.rows.specs.Calls.{addEdge}
+use lib.ListN.{getD}
+use Rattle.tables.specs.Net.{nodeCell}
 use Rattle.index.specs.declared.EdgeIndex.{EdgeIndex}
 use Rattle.lists.specs.declared.Found.{Found}
 use Rattle.lists.specs.declared.Found.the-variants as Found·
@@ -21,7 +17,7 @@ use Rattle.lists.specs.Parts.{firstOf}
 use Rattle.find.specs.declared.Sought.{Sought}
 use Rattle.find.specs.declared.Sought.the-variants.{Row, Missing, Endless}
 use Rattle.find.specs.Parts.{firstIn, searched, soughtFrom}
-use Rattle.find.specs.Find.{on, findEdge, containsEdge, updateEdge}
+use Rattle.find.specs.Find.{on}
 use Rattle.lists.proofs.Walks.{taken-below}
 
 -- whatever a search comes to
@@ -59,19 +55,24 @@ module _ (k m s : ℕ) (next : Sought) where
       go true h = absurd (let z : _≡_ {A = ℕ} 0 1 = cc in omega arith)
       go false h = refl
 
--- the same of a node's list
-module _ (heads links ends : List ℕ) (m a b k : ℕ) (next : Sought) where
-  abbrev outcome : Found
-  outcome = firstOf (takenFrom links ends m k (To (record { 0 = b })) (getD heads (nodeCell a k) 0)) m (stopFrom links m k (getD heads (nodeCell a k) 0))
+-- what the first match of a list in direction k tells: a match is the answer, else what comes next
+abbrev pub after : ℕ → Found → Sought → Sought
+after k (Found·.At e) next = Row e k
+after k (Found·.End e) next = next
+after k Found·.Broken next = Endless
 
-  pub search-row : {e : EdgeIndex} → outcome ≡ Found·.At e → Row e k ≡ searched heads links ends m a b k next
-  search-row h = sym (found-row k m _ next (takenFrom links ends m k (To (record { 0 = b })) (getD heads (nodeCell a k) 0)) h)
+-- the first match of node a's list in direction k
+abbrev listOf : List ℕ → List ℕ → List ℕ → (m a b k : ℕ) → List ℕ
+listOf heads links ends m a b k = takenFrom links ends m k (To (record { 0 = b })) (getD heads (nodeCell a k) 0)
 
-  pub search-broken : outcome ≡ Found·.Broken → Endless ≡ searched heads links ends m a b k next
-  search-broken h = sym (found-broken k m _ next (takenFrom links ends m k (To (record { 0 = b })) (getD heads (nodeCell a k) 0)) h)
+abbrev pub outcome : List ℕ → List ℕ → List ℕ → (m a b k : ℕ) → Found
+outcome heads links ends m a b k = firstOf (listOf heads links ends m a b k) m (stopFrom links m k (getD heads (nodeCell a k) 0))
 
-  pub search-end : {e : EdgeIndex} → outcome ≡ Found·.End e → next ≡ searched heads links ends m a b k next
-  search-end h = sym (found-end k m _ next (takenFrom links ends m k (To (record { 0 = b })) (getD heads (nodeCell a k) 0)) h)
+pub told-by : (heads links ends : List ℕ) (m a b k : ℕ) (next : Sought) (v : Found) → outcome heads links ends m a b k ≡ v
+    → after k v next ≡ searched heads links ends m a b k next
+told-by heads links ends m a b k next (Found·.At e) h = sym (found-row k m _ next (listOf heads links ends m a b k) h)
+told-by heads links ends m a b k next (Found·.End e) h = sym (found-end k m _ next (listOf heads links ends m a b k) h)
+told-by heads links ends m a b k next Found·.Broken h = sym (found-broken k m _ next (listOf heads links ends m a b k) h)
 
 -- the row that a search finds is below m
 module _ (heads links ends : List ℕ) (m a b : ℕ) where
@@ -92,13 +93,3 @@ module _ (heads links ends : List ℕ) (m a b : ℕ) where
   unfolding soughtFrom
   sought-below h =
       ⊎-elim (λ l. l) (λ n. ⊎-elim (λ l. l) (λ z. absurd (let y : _≡_ {A = ℕ} 0 1 = cc in omega arith)) (list-below 1 Missing n)) (list-below 0 (searched heads links ends m a b 1 Missing) h)
-
--- what each call tells of a search
-module _ (g : Net) (a b : ℕ) (f : fits g ≡ true) (h : a < g .n) {s : Sought} (e : soughtFrom (g .heads) (g .links) (g .ends) (g .m) a b ≡ s) where
-  pub find-told : on s (λ x. done x) (refused Nothing 0) (refused Broken 0) ≡ findEdge g a b
-  unfolding findEdge
-  find-told = rw (f, lt-ltb _ _ h, e)
-
-  pub contains-told : on s (λ x. done 1) (done 0) (refused Broken 0) ≡ containsEdge g a b
-  unfolding containsEdge
-  contains-told = rw (f, lt-ltb _ _ h, e)

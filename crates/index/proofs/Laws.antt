@@ -1,4 +1,4 @@
--- The two directions are numbered 0 and 1, and each refusal has a number of its own. Assumes nothing.
+-- The two directions are numbered 0 and 1, and each refusal has a number of its own.
 use Prim.Native.Nat.{ℕ, _<_}
 use mathlib.Core.Path.{_≡_, refl}
 use mathlib.Core.List.{[], _∷_, map}

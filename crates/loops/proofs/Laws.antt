@@ -1,4 +1,4 @@
--- One call more, and the items of a walk: what moves every loop on. Assumes nothing.
+-- One call more, and the items of a walk: what moves every loop on.
 use Prim.Native.Nat.{ℕ, _+_, _≤_, _<_}
 use mathlib.Core.Path.{_≡_, sym, ap, subst, _∙_}
 use mathlib.Core.Bool.{Bool, true, false, cond, not, _&&_}

@@ -1,4 +1,4 @@
--- Network A of the order, built by the definitions from an empty network, computes to its rows. Assumes nothing.
+-- Network A of the order, built by the definitions from an empty network, computes to its rows.
 use mathlib.Core.Path.{_≡_, refl}
 use lib.IntN.{pos, negsuc}
 use Rattle.tables.specs.Net.{Net, fit}

@@ -1,4 +1,4 @@
--- One direction under other links and ends: where they agree on the rows in use, with one node more, with one edge more. Assumes nothing.
+-- One direction under other links and ends: where they agree on the rows in use, with one node more, with one edge more.
 use Prim.Native.Nat.{ℕ, _+_, _≤_, _<_}
 use mathlib.Core.Path.{_≡_, refl, sym, ap, _∙_}
 use mathlib.Core.Logic.{inl, inr, ⊎-elim}

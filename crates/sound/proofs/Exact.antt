@@ -1,4 +1,4 @@
--- One direction: its walks read m rows exactly where the lists are sound. Assumes nothing.
+-- One direction: its walks read m rows exactly where the lists are sound.
 use Prim.Native.Nat.{ℕ, zero, suc, _+_, _-_, _≤_, _<_}
 use mathlib.Core.Path.{_≡_, refl, sym, _∙_}
 use mathlib.Core.Logic.{_⊎_, inl, inr, ⊎-elim}

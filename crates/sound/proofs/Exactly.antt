@@ -1,12 +1,11 @@
 -- The check accepts exactly the sound networks, `sound-accepted` and `accepted-sound`, and then reads 2 m rows; by the order's numbers,
--- `sound-0` and `answered-0`. A sound network's lists are those that a walk meets: `lists-are`, `as-walked`. Assumes nothing.
+-- `sound-0` and `answered-0`. A sound network's lists are those that a walk meets: `lists-are`, `as-walked`.
 use Prim.Native.Nat.{ℕ, zero, suc, _+_, _*_, _≤_, _<_}
 use mathlib.Core.Path.{_≡_, refl, ap, _∙_}
 use mathlib.Core.Bool.{Bool, true, false}
 use mathlib.Core.List.{List}
 use native.Mathlib.Omega.{arith}
 use lib.ListN.{length}
-use Rattle.index.specs.declared.EdgeDirection.the-variants.{Outgoing, Incoming}
 use Rattle.index.specs.declared.Refusal.the-variants.{Tables}
 use Rattle.index.specs.Index.{END}
 use Rattle.index.proofs.Laws.{not-zero}
@@ -30,21 +29,6 @@ pub small : (g : Net) → fits g ≡ true → g .m ≤ END
 small g f =
     let t = fit-says (length (g .weights)) (length (g .heads)) (length (g .registers)) (length (g .links)) (length (g .ends)) (g .n) (g .m) f in
     omega arith
-
--- the code's answers, by what each direction gives
-module _ (g : Net) (w : Walked) (fit : fits g ≡ true) (first : w ≡ way g 0) where
-  pub fault-out : (a : ℕ) → w ≡ FaultAt a → Checked·.Fault Outgoing (record { 0 = a }) ≡ checked g
-  unfolding checked
-  fault-out a h = rw (fit, ← first, h)
-
-  module _ (v : Walked) (second : v ≡ way g 1) where
-    pub fault-in : (q a : ℕ) → w ≡ Read q → v ≡ FaultAt a → Checked·.Fault Incoming (record { 0 = a }) ≡ checked g
-    unfolding checked
-    fault-in q a h i = rw (fit, ← first, ← second, h, i)
-
-    pub no-fault : (q r : ℕ) → w ≡ Read q → v ≡ Read r → Checked·.Accepted (q + r) ≡ checked g
-    unfolding checked
-    no-fault q r h i = rw (fit, ← first, ← second, h, i)
 
 -- an accepted network: what the test for answer 1 and each direction give
 accepts : (b : Bool) (w v : Walked) (rows : ℕ) → unless b (Checked·.Refused Tables) (verdict w v) ≡ Checked·.Accepted rows

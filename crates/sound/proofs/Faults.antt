@@ -1,4 +1,4 @@
--- One direction: its walks name a node exactly where it is the first fault. Assumes nothing.
+-- One direction: its walks name a node exactly where it is the first fault.
 use Prim.Native.Nat.{ℕ, zero, suc, _+_, _-_, _≤_, _<_}
 use mathlib.Core.Path.{_≡_, refl, sym, ap, _∙_}
 use mathlib.Core.Logic.{_⊎_, inl, inr}

@@ -1,6 +1,6 @@
 -- A sound network stays sound, and these are its lists: `node-set`, `edge-set`, `node-added`, `edge-added`, `updated`, `edges-cleared`,
 -- `all-cleared`; whatever the call answers: `node-kept`, `edge-kept`, `update-kept`, `clear-edges-kept`, `clear-kept`. Rows at or past the counts,
--- and weights, have no part in it: `in-use`. Assumes nothing.
+-- and weights, have no part in it: `in-use`.
 use Prim.{Unit}
 use Prim.Native.Nat.{ℕ, _+_, _*_, _≤_, _<_}
 use mathlib.Core.Path.{_≡_, refl, sym, _∙_, subst}

@@ -1,4 +1,4 @@
--- Where each list is a chain of its own node's edges, the lists have m rows in all exactly when every edge is listed. Assumes nothing.
+-- Where each list is a chain of its own node's edges, the lists have m rows in all exactly when every edge is listed.
 use Prim.{tt}
 use Prim.Native.Nat.{ℕ, zero, suc, _+_, _≤_, _<_}
 use mathlib.Core.Path.{_≡_, refl, sym, ap, _∙_}

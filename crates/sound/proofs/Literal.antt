@@ -1,4 +1,4 @@
--- The check's answer is right in words, `right`, and is the only one that is: `only`, `determined`. Assumes nothing.
+-- The check's answer is right in words, `right`, and is the only one that is: `only`, `determined`.
 use Prim.Native.Nat.{_+_}
 use mathlib.Core.Path.{_≡_, refl, sym, ap, _∙_}
 use mathlib.Core.Bool.{Bool, true, false}

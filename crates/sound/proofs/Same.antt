@@ -1,4 +1,4 @@
--- Sound in the order's words and by members are the same: `counts` and `members`. Assumes nothing.
+-- Sound in the order's words and by members are the same: `counts` and `members`.
 use Prim.Native.Nat.{ℕ, suc, _≤_}
 use mathlib.Core.Path.{_≡_, refl, sym, ap}
 use mathlib.Core.Logic.{inl, inr}

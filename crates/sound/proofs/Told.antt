@@ -1,4 +1,4 @@
--- No two answers of the check are told alike: `told-apart`. Assumes nothing.
+-- No two answers of the check are told alike: `told-apart`.
 use Prim.Native.Nat.{ℕ}
 use mathlib.Core.Path.{_≡_, refl, sym, ap, _∙_}
 use mathlib.Core.Bool.{true, false, Bool, cond}

@@ -1,5 +1,5 @@
 -- The clauses of `walked`, each under the facts that choose it, where `link` stands at the spot s; and of the walk through all lists
--- of one direction. Whatever the tables hold, it reads at most m rows: `most-read`. Assumes nothing.
+-- of one direction. Whatever the tables hold, it reads at most m rows: `most-read`.
 use Prim.Native.Nat.{ℕ, zero, suc, _+_, _-_, _^_, _≤_, _<_}
 use mathlib.Core.Path.{_≡_, refl, sym, _∙_}
 use native.Mathlib.Decide.{ℕ-discrete, decLt}

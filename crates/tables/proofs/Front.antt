@@ -1,5 +1,5 @@
 -- A loop that stores from the front: after i turns the first i cells are those of t, the others what they were.
--- And a part that such a loop filled. Assumes nothing.
+-- And a part that such a loop filled.
 use Prim.Native.Nat.{ℕ, zero, suc, _+_, _-_, _<_, _≤_}
 use mathlib.Core.Path.{_≡_, refl, ap, ap₂, _∙_}
 use mathlib.Core.List.{List, [], _∷_, _++_, append-nil}

@@ -1,4 +1,4 @@
--- What the test for answer 1 says, read off a call of it; what holds whether a test passes or not: `tested`. Assumes nothing.
+-- What the test for answer 1 says, read off a call of it; what holds whether a test passes or not: `tested`.
 use Prim.Native.Nat.{ℕ, _*_, _≤_}
 use mathlib.Core.Path.{_≡_, refl, sym, _∙_}
 use mathlib.Core.Bool.{Bool, true, false, not, _&&_}

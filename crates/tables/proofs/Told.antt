@@ -1,4 +1,4 @@
--- No two answers are told alike: number and values give the answer back. Assumes nothing.
+-- No two answers are told alike: number and values give the answer back.
 use Prim.{Unit}
 use Prim.Native.Nat.{ℕ}
 use mathlib.Core.Path.{_≡_, refl, sym, ap, _∙_}

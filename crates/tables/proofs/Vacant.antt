@@ -1,4 +1,4 @@
--- The rows of a span made vacant are vacant rows, and the column keeps its length. Assumes nothing.
+-- The rows of a span made vacant are vacant rows, and the column keeps its length.
 use Prim.Native.Nat.{ℕ, _+_, _-_, _*_, _≤_, _<_}
 use mathlib.Core.Path.{_≡_, ap, _∙_}
 use mathlib.Core.List.{List, _++_}

@@ -1,4 +1,4 @@
--- The walker and the sum on network A of the order, and on small networks with self-loops and broken rows, computed. Assumes nothing.
+-- The walker and the sum on network A of the order, and on small networks with self-loops and broken rows, computed.
 use Prim.Native.Nat.{ℕ}
 use mathlib.Core.Path.{_≡_, refl}
 use mathlib.Core.List.{[], _∷_}
@@ -6,7 +6,7 @@ use lib.IntN.{pos, negsuc}
 use Rattle.index.specs.Index.{END}
 use Rattle.index.specs.declared.Refusal.the-variants.{NoNode, Nothing, Broken}
 use Rattle.tables.specs.Net.{Net, net, fit}
-use Rattle.tables.proofs.NetworkA.{networkA}
+use Rattle.tables.proofs.NetworkA.{headsOf, networkA}
 use Rattle.tables.specs.Answers.{out, done, refused}
 use Rattle.lists.specs.Walk.{walk, stop}
 use Rattle.walker.specs.Steps.{walkerOf, begin, step}
@@ -34,7 +34,7 @@ no-walk = refl
 
 -- a node of weight -3 with one edge: its ends, and what follows it in the incoming list
 abbrev single : ℕ → ℕ → ℕ → Net
-single source target incoming = net (negsuc 2 ∷ []) (0 ∷ 0 ∷ []) (10 ∷ []) (END ∷ incoming ∷ []) (source ∷ target ∷ []) 1 1
+single source target incoming = net (negsuc 2 ∷ []) (headsOf ((0, 0) ∷ [])) (10 ∷ []) (END ∷ incoming ∷ []) (source ∷ target ∷ []) 1 1
 
 -- a self-loop comes once; at 5 the walker stands past it in the incoming list too
 pub loop-once : step (single 0 0 END) (walkerOf 0 0 0) ≡ out (done 0) (walkerOf 0 END 0)

@@ -1,6 +1,6 @@
--- A step along the incoming list, told from what the search for its row finds. Assumes nothing.
+-- A step along the incoming list, told from what the search for its row finds.
 use Prim.Native.Nat.{ℕ, _≤_, _<_}
-use mathlib.Core.Path.{_≡_, refl, sym, _∙_}
+use mathlib.Core.Path.{_≡_, refl}
 use mathlib.Core.Bool.{Bool, true, false, cond}
 use mathlib.Core.List.{List, [], _∷_}
 use lib.Dec.{ltb}
@@ -9,7 +9,8 @@ use native.Mathlib.Omega.{arith}
 use Rattle.index.specs.declared.EdgeIndex.{EdgeIndex}
 use Rattle.index.specs.declared.Refusal.the-variants as Refusal·
 use Rattle.tables.specs.Net.{Net, fits}
-use Rattle.tables.specs.Answers.{out, done, refused}
+use Rattle.tables.specs.Answers.{Out, out, done, refused}
+use Rattle.lists.specs.declared.Found.{Found}
 use Rattle.lists.specs.declared.Found.the-variants.{At, End, Broken}
 use Rattle.lists.specs.declared.Pick.the-variants.{NotTo}
 use Rattle.lists.specs.declared.Item.the-variants.{Far}
@@ -37,49 +38,28 @@ found-below p next m e s {x} h = by (filter p (walk next m m e)) refl h
         let z : x ≡ record { 0 = y } = cc in
         rw z (taken-below next m p m e y ys q)
 
-module _ (g : Net) (w : Walker) where
-  at-told : (xs : List ℕ) (s : ℕ) {x : EdgeIndex} → At x ≡ firstOf xs (g .m) s
-      → out (done (gives g Far 1 (x .0))) (withIncoming w (cell (g .links) 1 (x .0))) ≡ incomingStep g w xs s
-  at-told [] s h = absurd (none-found (g .m) s h)
-  at-told (e ∷ es) s {x} h = let z : x ≡ record { 0 = e } = cc in rw z
+-- a step along the incoming list by what the search for its row finds
+abbrev pub stepOf : Net → Walker → Found → Out ℕ Walker
+stepOf g w (At x) = out (done (gives g Far 1 (x .0))) (withIncoming w (cell (g .links) 1 (x .0)))
+stepOf g w (End x) = out (refused Refusal·.Nothing 0) (withIncoming w (x .0))
+stepOf g w Broken = out (refused Refusal·.Broken 0) w
 
-  end-told : (xs : List ℕ) (s : ℕ) {x : EdgeIndex} → End x ≡ firstOf xs (g .m) s
-      → out {A = ℕ} (refused Refusal·.Nothing 0) (withIncoming w (x .0)) ≡ incomingStep g w xs s
-  end-told [] s {x} h = by (ltb s (g .m)) h
-    where
-      by : (b : Bool) → End x ≡ cond b Broken (End (record { 0 = s }))
-          → out {A = ℕ} (refused Refusal·.Nothing 0) (withIncoming w (x .0)) ≡ cond b (out (refused Refusal·.Broken 0) w) (out (refused Refusal·.Nothing 0) (withIncoming w s))
-      by true h = absurd (let z : _≡_ {A = ℕ} 0 1 = cc in omega arith)
-      by false h = let z : x ≡ record { 0 = s } = cc in rw z
-  end-told (e ∷ es) s h = absurd (let z : _≡_ {A = ℕ} 0 1 = cc in omega arith)
-
-  broken-told : (xs : List ℕ) (s : ℕ) → Broken ≡ firstOf xs (g .m) s → out {A = ℕ} (refused Refusal·.Broken 0) w ≡ incomingStep g w xs s
-  broken-told [] s h = by (ltb s (g .m)) h
-    where
-      by : (b : Bool) → Broken ≡ cond b Broken (End (record { 0 = s }))
-          → out {A = ℕ} (refused Refusal·.Broken 0) w ≡ cond b (out (refused Refusal·.Broken 0) w) (out (refused Refusal·.Nothing 0) (withIncoming w s))
-      by true h = refl
-      by false h = absurd (let z : _≡_ {A = ℕ} 0 1 = cc in omega arith)
-  broken-told (e ∷ es) s h = absurd (let z : _≡_ {A = ℕ} 0 1 = cc in omega arith)
+pub step-told : (g : Net) (w : Walker) (xs : List ℕ) (s : ℕ) (v : Found) → v ≡ firstOf xs (g .m) s → stepOf g w v ≡ incomingStep g w xs s
+step-told g w (e ∷ es) s v h = rw h
+step-told g w [] s v h = rw h (by (ltb s (g .m)))
+  where
+    by : (b : Bool) → stepOf g w (cond b Broken (End (record { 0 = s }))) ≡ cond b (out (refused Refusal·.Broken 0) w) (out (refused Refusal·.Nothing 0) (withIncoming w s))
+    by true = refl
+    by false = refl
 
 -- the rows of the incoming list that a step may give, and the link where that list ends
-abbrev others : Net → Walker → List ℕ
+abbrev pub others : Net → Walker → List ℕ
 others g w = takenFrom (g .links) (g .ends) (g .m) 1 (NotTo (w .start)) (w .incoming .0)
 
-abbrev ended : Net → Walker → ℕ
+abbrev pub ended : Net → Walker → ℕ
 ended g w = stopFrom (g .links) (g .m) 1 (w .incoming .0)
 
--- the columns fit, and the outgoing list is at its end
-module _ (g : Net) (w : Walker) (f : fits g ≡ true) (o : g .m ≤ w .outgoing .0) where
-  pub incoming-step : step g w ≡ incomingStep g w (others g w) (ended g w)
-  unfolding step
-  incoming-step = rw (f, le-ltb _ _ o)
-
-  pub step-at : {x : EdgeIndex} → At x ≡ firstOf (others g w) (g .m) (ended g w) → out (done (gives g Far 1 (x .0))) (withIncoming w (cell (g .links) 1 (x .0))) ≡ step g w
-  step-at h = at-told g w (others g w) (ended g w) h ∙ sym incoming-step
-
-  pub step-end : {x : EdgeIndex} → End x ≡ firstOf (others g w) (g .m) (ended g w) → out {A = ℕ} (refused Refusal·.Nothing 0) (withIncoming w (x .0)) ≡ step g w
-  step-end h = end-told g w (others g w) (ended g w) h ∙ sym incoming-step
-
-  pub step-broken : Broken ≡ firstOf (others g w) (g .m) (ended g w) → out {A = ℕ} (refused Refusal·.Broken 0) w ≡ step g w
-  step-broken h = broken-told g w (others g w) (ended g w) h ∙ sym incoming-step
+-- where the columns fit and the outgoing list is at its end
+pub incoming-step : (g : Net) (w : Walker) → fits g ≡ true → g .m ≤ w .outgoing .0 → step g w ≡ incomingStep g w (others g w) (ended g w)
+unfolding step
+incoming-step g w f o = rw (f, le-ltb _ _ o)

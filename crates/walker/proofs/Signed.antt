@@ -1,4 +1,4 @@
--- Signed numbers and their bits: one more weight on a sum. Assumes nothing.
+-- Signed numbers and their bits: one more weight on a sum.
 use Prim.Native.Nat.{ℕ, suc, _+_, _-_, _^_, _≤_, _<_}
 use mathlib.Core.Path.{_≡_, ap, _∙_}
 use mathlib.Core.Bool.{Bool, true, false, cond}

@@ -1,4 +1,4 @@
--- No two answers are told alike: number and values, and a step's walker, give the answer back. Assumes nothing.
+-- No two answers are told alike: number and values, and a step's walker, give the answer back.
 use Prim.Native.Nat.{ℕ}
 use mathlib.Core.Path.{_≡_, refl}
 use lib.IntN.{ℤ, pos}

@@ -1,4 +1,4 @@
--- A loop that sums the weights of far ends: what it has summed so far, and how it may end. Assumes nothing.
+-- A loop that sums the weights of far ends: what it has summed so far, and how it may end.
 use Prim.Native.Nat.{ℕ, _+_, _-_, _*_, _^_, _≤_, _<_}
 use mathlib.Core.Path.{_≡_, refl, sym, ap, _∙_}
 use mathlib.Core.Bool.{Bool, true, false, cond, not, _&&_}
@@ -101,7 +101,8 @@ module _ (weights : List ℤ) (n : ℕ) (p : ℕ → Bool) (far : ℕ → ℕ) (
     pub sum-misses : {z : ℤ} → Summing weights n p far before met z rows → e < m → (rows ≡ m → ⊥) → p e ≡ true → n ≤ far e → Broken ≡ tallied
     sum-misses s h r t l =
         let xs = walk next m (m - (rows + 1)) (next e) in
-        let q : fars p far (walk next m m first) ≡ fars p far met ++ (far e ∷ fars p far xs) = ap (fars p far) (rest a h r) ∙ fars-append met (e ∷ xs) ∙ ap (λ ys. fars p far met ++ ys) (fars-row e xs t) in
+        let q : fars p far (walk next m m first) ≡ fars p far met ++ (far e ∷ fars p far xs) =
+        ap (fars p far) (rest a h r) ∙ fars-append met (e ∷ xs) ∙ ap (λ ys. fars p far met ++ ys) (fars-row e xs t) in
         let z : present n (fars p far (walk next m m first)) ≡ false = rw (q, present-append n (fars p far met) (far e ∷ fars p far xs), s .none-missing, le-ltb _ _ l) in
         rw (and-false (not (ltb (stop next m m first) m)) _ z)
 

@@ -1,4 +1,4 @@
--- Stepping the walker gives the walk around its node, one neighbour after the other, and then stops. Assumes nothing.
+-- Stepping the walker gives the walk around its node, one neighbour after the other, and then stops.
 use Prim.Native.Nat.{ℕ, zero, suc, _+_, _≤_, _<_}
 use mathlib.Core.Path.{_≡_, refl, sym, ap, ap₂, _∙_}
 use mathlib.Core.Bool.{Bool, true, false, cond}

@@ -1,12 +1,14 @@
--- `net_edge_weights` meets its contract: what the call answers is passed on. Assumes nothing.
+-- `net_edge_weights` meets its contract: what the call answers is passed on.
 use borrow.Author.Needs.{needs}
 use Rattle.cells.proofs.Laws.{passed-on}
 use Rattle.exportlists.proofs.net_edge_weights.Statement.{statement}
 use Rattle.exportlists.proofs.net_edge_weights.Tie as tie
 
-returns : tie.Need-returns
-returns c = passed-on (c .tell-items .ensures) (c .before .before .before .before .edge-weights .ensures)
-
 pub net-edge-weights-spec : {M : Type 1} → statement M
 net-edge-weights-spec =
-    tie.close (tie.spec (λ c κs. search needs) (λ c κs. search needs) (λ c. search needs) returns)
+    tie.close
+    (tie.spec
+    (λ c κs. search needs)
+    (λ c κs. search needs)
+    (λ c. search needs)
+    (λ c. let d : tie.After-edge-weights = search in passed-on (c .tell-items .ensures) (d .edge-weights .ensures)))

@@ -1,11 +1,8 @@
--- `net_update_edge` meets its contract: what the call answers is passed on. Assumes nothing.
+-- `net_update_edge` meets its contract: what the call answers is passed on.
 use borrow.Author.Needs.{needs}
 use Rattle.cells.proofs.Laws.{passed-on}
 use Rattle.exportlists.proofs.net_update_edge.Statement.{statement}
 use Rattle.exportlists.proofs.net_update_edge.Tie as tie
-
-returns : tie.Need-returns
-returns c = passed-on (c .tell-edge .ensures) (c .before .before .before .before .before .before .before .before .before .before .update-edge .ensures)
 
 pub net-update-edge-spec : {M : Type 1} → statement M
 net-update-edge-spec =
@@ -17,4 +14,4 @@ net-update-edge-spec =
     (λ c. search needs)
     (λ c. search needs)
     (λ c. search needs)
-    returns)
+    (λ c. let d : tie.After-update-edge = search in passed-on (c .tell-edge .ensures) (d .update-edge .ensures)))

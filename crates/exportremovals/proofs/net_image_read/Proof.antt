@@ -1,11 +1,8 @@
--- `net_image_read` meets its contract: what the call answers is passed on. Assumes nothing.
+-- `net_image_read` meets its contract: what the call answers is passed on.
 use borrow.Author.Needs.{needs}
 use Rattle.cells.proofs.Laws.{passed-on}
 use Rattle.exportremovals.proofs.net_image_read.Statement.{statement}
 use Rattle.exportremovals.proofs.net_image_read.Tie as tie
-
-returns : tie.Need-returns
-returns c = passed-on (c .tell-change .ensures) (c .before .before .before .before .before .before .before .before .before .before .image-read .ensures)
 
 pub net-image-read-spec : {M : Type 1} → statement M
 net-image-read-spec =
@@ -18,4 +15,4 @@ net-image-read-spec =
     (λ c. search needs)
     (λ c. search needs)
     (λ c. search needs)
-    returns)
+    (λ c. let d : tie.After-image-read = search in passed-on (c .tell-change .ensures) (d .image-read .ensures)))

@@ -1,11 +1,8 @@
--- `net_remove_node` meets its contract: what the call answers is passed on. Assumes nothing.
+-- `net_remove_node` meets its contract: what the call answers is passed on.
 use borrow.Author.Needs.{needs}
 use Rattle.cells.proofs.Laws.{passed-on}
 use Rattle.exportremovals.proofs.net_remove_node.Statement.{statement}
 use Rattle.exportremovals.proofs.net_remove_node.Tie as tie
-
-returns : tie.Need-returns
-returns c = passed-on (c .tell-node-removed .ensures) (c .before .before .before .before .before .before .before .before .before .before .before .before .before .before .before .remove-node .ensures)
 
 pub net-remove-node-spec : {M : Type 1} → statement M
 net-remove-node-spec =
@@ -19,4 +16,4 @@ net-remove-node-spec =
     (λ c. search needs)
     (λ c. search needs)
     (λ c. search needs)
-    returns)
+    (λ c. let d : tie.After-remove-node = search in passed-on (c .tell-node-removed .ensures) (d .remove-node .ensures)))

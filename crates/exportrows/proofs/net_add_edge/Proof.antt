@@ -1,11 +1,8 @@
--- `net_add_edge` meets its contract: what the call answers is passed on. Assumes nothing.
+-- `net_add_edge` meets its contract: what the call answers is passed on.
 use borrow.Author.Needs.{needs}
 use Rattle.cells.proofs.Laws.{passed-on}
 use Rattle.exportrows.proofs.net_add_edge.Statement.{statement}
 use Rattle.exportrows.proofs.net_add_edge.Tie as tie
-
-returns : tie.Need-returns
-returns c = passed-on (c .tell-edge .ensures) (c .before .before .before .before .before .before .before .before .before .before .add-edge .ensures)
 
 pub net-add-edge-spec : {M : Type 1} → statement M
 net-add-edge-spec =
@@ -17,4 +14,4 @@ net-add-edge-spec =
     (λ c. search needs)
     (λ c. search needs)
     (λ c. search needs)
-    returns)
+    (λ c. let d : tie.After-add-edge = search in passed-on (c .tell-edge .ensures) (d .add-edge .ensures)))

@@ -1,11 +1,8 @@
--- `net_clear` meets its contract: what the call answers is passed on. Assumes nothing.
+-- `net_clear` meets its contract: what the call answers is passed on.
 use borrow.Author.Needs.{needs}
 use Rattle.cells.proofs.Laws.{passed-on}
 use Rattle.exportrows.proofs.net_clear.Statement.{statement}
 use Rattle.exportrows.proofs.net_clear.Tie as tie
-
-returns : tie.Need-returns
-returns c = passed-on (c .tell-change .ensures) (c .before .before .before .before .before .before .before .before .before .before .clear .ensures)
 
 pub net-clear-spec : {M : Type 1} → statement M
 net-clear-spec =
@@ -18,4 +15,4 @@ net-clear-spec =
     (λ c. search needs)
     (λ c. search needs)
     (λ c. search needs)
-    returns)
+    (λ c. let d : tie.After-clear = search in passed-on (c .tell-change .ensures) (d .clear .ensures)))

@@ -1,11 +1,8 @@
--- `net_clear_edges` meets its contract: what the call answers is passed on. Assumes nothing.
+-- `net_clear_edges` meets its contract: what the call answers is passed on.
 use borrow.Author.Needs.{needs}
 use Rattle.cells.proofs.Laws.{passed-on}
 use Rattle.exportrows.proofs.net_clear_edges.Statement.{statement}
 use Rattle.exportrows.proofs.net_clear_edges.Tie as tie
-
-returns : tie.Need-returns
-returns c = passed-on (c .tell-change .ensures) (c .before .before .before .before .before .before .before .before .before .clear-edges .ensures)
 
 pub net-clear-edges-spec : {M : Type 1} → statement M
 net-clear-edges-spec =
@@ -17,4 +14,4 @@ net-clear-edges-spec =
     (λ c. search needs)
     (λ c. search needs)
     (λ c. search needs)
-    returns)
+    (λ c. let d : tie.After-clear-edges = search in passed-on (c .tell-change .ensures) (d .clear-edges .ensures)))

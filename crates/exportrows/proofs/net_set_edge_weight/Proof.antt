@@ -1,12 +1,14 @@
--- `net_set_edge_weight` meets its contract: what the call answers is passed on. Assumes nothing.
+-- `net_set_edge_weight` meets its contract: what the call answers is passed on.
 use borrow.Author.Needs.{needs}
 use Rattle.cells.proofs.Laws.{passed-on}
 use Rattle.exportrows.proofs.net_set_edge_weight.Statement.{statement}
 use Rattle.exportrows.proofs.net_set_edge_weight.Tie as tie
 
-returns : tie.Need-returns
-returns c = passed-on (c .tell-change .ensures) (c .before .before .before .set-edge-weight .ensures)
-
 pub net-set-edge-weight-spec : {M : Type 1} → statement M
 net-set-edge-weight-spec =
-    tie.close (tie.spec (λ c κs. search needs) (λ c κs. search needs) (λ c. search needs) returns)
+    tie.close
+    (tie.spec
+    (λ c κs. search needs)
+    (λ c κs. search needs)
+    (λ c. search needs)
+    (λ c. let d : tie.After-set-edge-weight = search in passed-on (c .tell-change .ensures) (d .set-edge-weight .ensures)))

@@ -1,47 +1,42 @@
--- `find::contains_edge` meets its contract: each `return` rewrites with the tests that led there, and is told by the search. Assumes nothing.
-use mathlib.Core.Path.{sym, _∙_}
-use borrow.Author.Needs.{needs}
-use borrow.Author.Tests.{le-ltb}
+-- `find::contains_edge` meets its contract: `guards` finds each test's fact; past the tests it is told by the search.
+use mathlib.Core.Path.{_≡_}
 use native.Mathlib.Omega.{arith}
-use Rattle.tables.proofs.Laws.{misfit, fitted, fitting}
-use Rattle.find.specs.Find.{containsEdge}
-use Rattle.find.proofs.Laws.{contains-told}
+use borrow.Author.Needs.{needs}
+use denote.Ref.{now}
+use Rattle.index.specs.declared.Refusal.the-variants.{Broken}
+use Rattle.tables.specs.Net.{Net, net}
+use Rattle.tables.specs.Answers.{done, refused}
+use Rattle.tables.proofs.Guards.{guards, FitOf}
+use Rattle.tables.proofs.Laws.{fitting}
+use Rattle.find.specs.declared.Sought.{Sought}
+use Rattle.find.specs.Find.{on, containsEdge}
 use Rattle.find.proofs.contains_edge.Statement.{statement}
 use Rattle.find.proofs.contains_edge.Tie as tie
 
-returns : tie.Need-returns
+abbrev lent : tie.Start → Net
+lent s = net (now (s .args .weights)) (now (s .args .heads)) (now (s .args .registers)) (now (s .args .links)) (now (s .args .ends)) (s .args .n) (s .args .m)
+
+-- past the first test, and past the last
+fit : (c : tie.Else1) → FitOf (lent (search))
+fit c = fitting (c .before .fits2 .ensures) (c .if1 .left)
+
+told : (c : tie.After-seek) (v : Sought) → c .seek .result ≡ v → let s : tie.Start = search in
+    on v (λ x. done 1) (done 0) (refused Broken 0) ≡ containsEdge (lent s) (s .args .a .0) (s .args .b .0)
 unfolding containsEdge
-returns c = rw (misfit (c .before .fits2 .ensures) (c .if1 .taken))
-
-returns-2 : tie.Need-returns-2
-unfolding containsEdge
-returns-2 c = rw (fitted (c .before .before .before .fits2 .ensures) (c .before .before .if1 .left), le-ltb _ _ (c .if2 .taken))
-
-seek-requires : tie.Need-seek-requires
-seek-requires c κs =
-    let f = fitting (c .before .before .before .fits2 .ensures) (c .before .before .if1 .left) in
-    omega arith
-
-returns-3 : tie.Need-returns-3
-returns-3 c = contains-told _ _ _ (fitted (c .before .before .before .before .before .before .fits2 .ensures) (c .before .before .before .before .before .if1 .left)) (c .before .before .before .if2 .left) (sym (c .before .before .seek .ensures) ∙ c .enum-told .given .1)
-
-returns-4 : tie.Need-returns-4
-returns-4 c = contains-told _ _ _ (fitted (c .before .before .before .before .before .before .fits2 .ensures) (c .before .before .before .before .before .if1 .left)) (c .before .before .before .if2 .left) (sym (c .before .before .seek .ensures) ∙ c .enum-told2 .given .1)
-
-returns-5 : tie.Need-returns-5
-returns-5 c = contains-told _ _ _ (fitted (c .before .before .before .before .before .before .fits2 .ensures) (c .before .before .before .before .before .if1 .left)) (c .before .before .before .if2 .left) (sym (c .before .before .seek .ensures) ∙ c .enum-told3 .given .1)
+told c v e = rw (← e, c .seek .ensures) (search guards depth 9)
 
 pub contains-edge-spec : {M : Type 1} → statement M
+unfolding containsEdge
 contains-edge-spec =
     tie.close
     (tie.spec
     (λ c κs. search needs)
-    returns
-    returns-2
-    seek-requires
+    (λ c. search guards depth 9)
+    (λ c. search guards depth 9)
+    (λ c κs. let f = fit (search) in omega arith)
     (λ c. search needs)
     (λ c. search needs)
     (λ c. search needs)
-    returns-3
-    returns-4
-    returns-5)
+    (λ c. told (search) _ (c .enum-told .given .1))
+    (λ c. told (search) _ (c .enum-told2 .given .1))
+    (λ c. told (search) _ (c .enum-told3 .given .1)))

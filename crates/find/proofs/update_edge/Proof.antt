@@ -1,4 +1,4 @@
--- `find::update_edge` meets its contract: `guards` finds each test's fact; past the tests it is told by the search. Assumes nothing.
+-- `find::update_edge` meets its contract: `guards` finds each test's fact; past the tests it is told by the search.
 use Prim.Native.Nat.{ℕ}
 use mathlib.Core.Path.{_≡_, sym, _∙_}
 use native.Mathlib.Omega.{arith}

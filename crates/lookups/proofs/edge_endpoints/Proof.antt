@@ -1,47 +1,26 @@
--- `rows::edge_endpoints` meets its contract: each `return` rewrites with the tests that led there. Assumes nothing.
-use borrow.Author.Needs.{needs}
-use borrow.Author.Tests.{lt-ltb, le-ltb}
+-- `lookups::edge_endpoints` meets its contract: `guards` finds each test's fact; past the tests the row is read as it stands.
 use native.Mathlib.Omega.{arith}
+use borrow.Author.Needs.{needs}
+use Rattle.tables.proofs.Guards.{guards}
+use Rattle.tables.proofs.Laws.{fitting}
 use Rattle.lookups.specs.Lookups.{edgeEndpoints}
-use Rattle.tables.proofs.Laws.{misfit, fitted, fitting}
 use Rattle.lookups.proofs.edge_endpoints.Statement.{statement}
 use Rattle.lookups.proofs.edge_endpoints.Tie as tie
 
-returns : tie.Need-returns
-unfolding edgeEndpoints
-returns c = rw (misfit (c .before .fits2 .ensures) (c .if1 .taken))
-
-returns-2 : tie.Need-returns-2
-unfolding edgeEndpoints
-returns-2 c = rw (fitted (c .before .before .before .fits2 .ensures) (c .before .before .if1 .left), le-ltb _ _ (c .if2 .taken))
-
-shared-slice-read-t17 : tie.Need-shared-slice-read-t17
-shared-slice-read-t17 c =
-    let f = fitting (c .before .before .before .before .before .fits2 .ensures) (c .before .before .before .before .if1 .left) in
-    omega arith
-
-shared-slice-read-t22 : tie.Need-shared-slice-read-t22
-shared-slice-read-t22 c =
-    let f = fitting (c .before .before .before .before .before .before .fits2 .ensures) (c .before .before .before .before .before .if1 .left) in
-    omega arith
-
-returns-3 : tie.Need-returns-3
-unfolding edgeEndpoints
-returns-3 c = rw (c .before .before .index .ensures, fitted (c .before .before .before .before .before .before .fits2 .ensures) (c .before .before .before .before .before .if1 .left), lt-ltb _ _ (c .before .before .before .if2 .left))
-
 pub edge-endpoints-spec : {M : Type 1} → statement M
+unfolding edgeEndpoints
 edge-endpoints-spec =
     tie.close
     (tie.spec
     (λ c κs. search needs)
-    returns
-    returns-2
+    (λ c. search guards depth 9)
+    (λ c. search guards depth 9)
     (λ c κs. search needs)
     (λ c. search needs)
     (λ c. search needs)
     (λ c. search needs)
-    shared-slice-read-t17
+    (λ c. let e : tie.Else1 = search in let f = fitting (e .before .fits2 .ensures) (e .if1 .left) in omega arith)
     (λ c. search needs)
     (λ c. search needs)
-    shared-slice-read-t22
-    returns-3)
+    (λ c. let e : tie.Else1 = search in let f = fitting (e .before .fits2 .ensures) (e .if1 .left) in omega arith)
+    (λ c. let i : tie.After-index = search in rw (i .index .ensures) (search guards depth 9)))

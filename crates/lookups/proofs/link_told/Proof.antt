@@ -1,4 +1,4 @@
--- `rows::link_told` meets its contract: each `return` rewrites with the test that led there. Assumes nothing.
+-- `lookups::link_told` meets its contract: each `return` rewrites with the test that led there.
 use borrow.Author.Needs.{needs}
 use mathlib.Core.Path.{sym, _∙_}
 use Rattle.lookups.proofs.link_told.Statement.{statement}

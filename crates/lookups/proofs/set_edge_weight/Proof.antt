@@ -1,40 +1,24 @@
--- `rows::set_edge_weight` meets its contract: each `return` rewrites with the tests that led there. Assumes nothing.
-use borrow.Author.Needs.{needs}
-use borrow.Author.Tests.{lt-ltb, le-ltb}
+-- `lookups::set_edge_weight` meets its contract: `guards` finds each test's fact; past the tests the row is set.
 use native.Mathlib.Omega.{arith}
+use borrow.Author.Needs.{needs}
+use Rattle.tables.proofs.Guards.{guards}
+use Rattle.tables.proofs.Laws.{fitting}
 use Rattle.lookups.specs.Lookups.{setEdgeWeight}
-use Rattle.tables.proofs.Laws.{misfit, fitted, fitting}
 use Rattle.lookups.proofs.set_edge_weight.Statement.{statement}
 use Rattle.lookups.proofs.set_edge_weight.Tie as tie
 
-returns : tie.Need-returns
-unfolding setEdgeWeight
-returns c = rw (misfit (c .before .fits2 .ensures) (c .if1 .taken))
-
-returns-2 : tie.Need-returns-2
-unfolding setEdgeWeight
-returns-2 c = rw (fitted (c .before .before .before .fits2 .ensures) (c .before .before .if1 .left), le-ltb _ _ (c .if2 .taken))
-
-slice-write-registers : tie.Need-slice-write-registers
-slice-write-registers c =
-    let f = fitting (c .before .before .before .before .fits2 .ensures) (c .before .before .before .if1 .left) in
-    omega arith
-
-returns-3 : tie.Need-returns-3
-unfolding setEdgeWeight
-returns-3 c = rw (c .index .ensures, fitted (c .before .before .before .before .fits2 .ensures) (c .before .before .before .if1 .left), lt-ltb _ _ (c .before .if2 .left))
-
 pub set-edge-weight-spec : {M : Type 1} → statement M
+unfolding setEdgeWeight
 set-edge-weight-spec =
     tie.close
     (tie.spec
     (λ c κs. search needs)
     (λ c. search needs)
-    returns
+    (λ c. search guards depth 9)
     (λ c. search needs)
-    returns-2
+    (λ c. search guards depth 9)
     (λ c κs. search needs)
     (λ c. search needs)
-    slice-write-registers
+    (λ c. let e : tie.Else1 = search in let f = fitting (e .before .fits2 .ensures) (e .if1 .left) in omega arith)
     (λ c. search needs)
-    returns-3)
+    (λ c. rw (c .index .ensures) (search guards depth 9)))

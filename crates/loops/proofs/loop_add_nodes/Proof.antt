@@ -1,4 +1,4 @@
--- `loop_add_nodes` meets its contract: after i turns it stands where the first i calls lead. Assumes nothing.
+-- `loop_add_nodes` meets its contract: after i turns it stands where the first i calls lead.
 use Prim.Native.Nat.{_-_, _≤_}
 use mathlib.Core.Path.{_≡_, refl, _∙_}
 use native.Mathlib.Omega.{arith}
@@ -29,19 +29,24 @@ loop-holds c = (omega arith, refl, refl, refl)
 
 loop-again : tie.Need-loop-again Inv-loop μ-loop
 loop-again c =
-    let p = c .before .before .before .before .before in
-    let l = c .before .before .before .before .before .before .before .before .before .before .before .loop in
-    let back = toZ-ofZ {w = w32} {z = getD (now (c .before .before .before .before .before .before .before .before .before .before .before .before .before .before .before .before .args .totals)) (l .i) (pos 0)} (record { sfits = p .before .before .before .before .w .given }) in (
-      omega (arith, c .before .before .before .before .before .before .before .before .before .before .loop-test .taken),
-      calls-more _ _ _ (l .inv .1) (rw back at (p .add-node .ensures)) (c .before .node-adds .ensures) (c .wrapping-add-u64 .ensures),
-      p .add-node .kept .0 ∙ l .inv .2,
-      p .add-node .kept .1 .0 ∙ l .inv .3,
+    let p : tie.After-add-node Inv-loop μ-loop = search in
+    let t : tie.In-loop Inv-loop μ-loop = search in
+    let l : tie.At-loop Inv-loop μ-loop = search in
+    let s : tie.Start Inv-loop μ-loop = search in
+    let w : tie.After-w Inv-loop μ-loop = search in
+    let back = toZ-ofZ {w = w32} {z = getD (now (s .args .totals)) (l .loop .i) (pos 0)} (record { sfits = w .w .given }) in
+    let i = l .loop .inv in (
+      omega (arith, t .loop-test .taken),
+      calls-more _ _ _ (i .1) (rw back at (p .add-node .ensures)) (c .before .node-adds .ensures) (c .wrapping-add-u64 .ensures),
+      p .add-node .kept .0 ∙ i .2,
+      p .add-node .kept .1 .0 ∙ i .3,
     )
 
 returns : tie.Need-returns Inv-loop μ-loop
 returns c =
+    let s : tie.Start Inv-loop μ-loop = search in
     let l = c .before .loop in
-    let e : l .i ≡ length (now (c .before .before .before .before .before .before .args .totals)) = omega (arith, c .loop-test .left) in
+    let e : l .i ≡ length (now (s .args .totals)) = omega (arith, c .loop-test .left) in
     rw e at (l .inv .1)
 
 pub loop-add-nodes-spec : {M : Type 1} → statement M

@@ -1,4 +1,4 @@
--- `loop_find_edges` meets its contract: after i turns the sum is that of the first i calls. Assumes nothing.
+-- `loop_find_edges` meets its contract: after i turns the sum is that of the first i calls.
 use Prim.{tt}
 use Prim.Native.Nat.{_-_, _/_, _≤_}
 use mathlib.Core.Path.{_≡_, refl, ap}
@@ -27,16 +27,20 @@ loop-holds c = (omega arith, refl, refl)
 
 loop-again : tie.Need-loop-again Inv-loop μ-loop
 loop-again c =
-    let l = c .before .before .before .before .before .before .loop in (
-      omega (arith, c .before .before .before .before .before .loop-test .taken, l .inv .1),
-      l .inv .1,
-      calls-more _ _ _ (l .inv .2) (ap (λ t. out t tt) (c .before .before .find-edge .ensures)) (c .before .edge-adds .ensures) (c .wrapping-add-u64 .ensures),
+    let p : tie.After-find-edge Inv-loop μ-loop = search in
+    let t : tie.In-loop Inv-loop μ-loop = search in
+    let l : tie.At-loop Inv-loop μ-loop = search in
+    let i = l .loop .inv in (
+      omega (arith, t .loop-test .taken, i .1),
+      i .1,
+      calls-more _ _ _ (i .2) (ap (λ t. out t tt) (p .find-edge .ensures)) (c .before .edge-adds .ensures) (c .wrapping-add-u64 .ensures),
     )
 
 returns : tie.Need-returns Inv-loop μ-loop
 returns c =
+    let s : tie.Start Inv-loop μ-loop = search in
     let l = c .before .loop in
-    let e : l .i ≡ length (now (c .before .before .before .before .before .before .before .args .pairs)) / 2 = omega (arith, c .loop-test .left, l .inv .1) in
+    let e : l .i ≡ length (now (s .args .pairs)) / 2 = omega (arith, c .loop-test .left, l .inv .1) in
     rw e at (ap (λ o. o .sum) (l .inv .2))
 
 pub loop-find-edges-spec : {M : Type 1} → statement M

@@ -1,4 +1,4 @@
--- `loop_neighbors` meets its contract: after a turns it stands where the calls of the first a nodes lead. Assumes nothing.
+-- `loop_neighbors` meets its contract: after a turns it stands where the calls of the first a nodes lead.
 use Prim.Native.Nat.{ℕ, _+_, _-_, _≤_}
 use mathlib.Core.Path.{_≡_, refl, ap, _∙_}
 use native.Mathlib.Omega.{arith}
@@ -22,21 +22,25 @@ unfolding calls
 loop-holds c = (omega arith, refl, refl)
 
 items-add-requires : tie.Need-items-add-requires Inv-loop μ-loop
-items-add-requires c κs = neighbors-given _ _ _ (c .before .before .before .neighbors .ensures) .few
+items-add-requires c κs = let p : tie.After-neighbors Inv-loop μ-loop = search in neighbors-given _ _ _ (p .neighbors .ensures) .few
 
 loop-again : tie.Need-loop-again Inv-loop μ-loop
 loop-again c =
-    let p = c .before .before .before .before .before in
-    let l = c .before .before .before .before .before .before .before .before .loop in (
-      omega (arith, c .before .before .before .before .before .before .before .loop-test .taken),
-      calls-more _ _ _ (l .inv .1) (ap itemsOf (p .neighbors .ensures)) refl (c .wrapping-add-u64 .ensures ∙ ap (λ (x : ℕ). in64 (l .sum + x)) (c .before .items-add .ensures) ∙ in64-twice (l .sum) _),
-      p .neighbors .kept .1 .1 .1 .1 .1 .1 .1 .1 .0 ∙ l .inv .2,
+    let p : tie.After-neighbors Inv-loop μ-loop = search in
+    let t : tie.In-loop Inv-loop μ-loop = search in
+    let l : tie.At-loop Inv-loop μ-loop = search in
+    let i = l .loop .inv in (
+      omega (arith, t .loop-test .taken),
+      calls-more _ _ _ (i .1) (ap itemsOf (p .neighbors .ensures)) refl
+          (c .wrapping-add-u64 .ensures ∙ ap (λ (x : ℕ). in64 (l .loop .sum + x)) (c .before .items-add .ensures) ∙ in64-twice (l .loop .sum) _),
+      p .neighbors .kept .1 .1 .1 .1 .1 .1 .1 .1 .0 ∙ i .2,
     )
 
 returns : tie.Need-returns Inv-loop μ-loop
 returns c =
+    let s : tie.Start Inv-loop μ-loop = search in
     let l = c .before .loop in
-    let e : l .a ≡ c .before .before .before .before .before .before .before .args .n = omega (arith, c .loop-test .left) in
+    let e : l .a ≡ s .args .n = omega (arith, c .loop-test .left) in
     rw e at (l .inv .1)
 
 pub loop-neighbors-spec : {M : Type 1} → statement M

@@ -1,4 +1,4 @@
--- `loop_remove_edges` meets its contract: after i turns it stands where the first i calls lead. Assumes nothing.
+-- `loop_remove_edges` meets its contract: after i turns it stands where the first i calls lead.
 use Prim.Native.Nat.{_-_, _≤_}
 use mathlib.Core.Path.{_≡_, refl, ap, _∙_}
 use native.Mathlib.Omega.{arith}
@@ -26,20 +26,23 @@ loop-holds c = (omega arith, refl, refl, refl, refl, refl)
 
 loop-again : tie.Need-loop-again Inv-loop μ-loop
 loop-again c =
-    let p = c .before .before .before .before .before .before .before .before .before .before in
-    let l = c .before .before .before .before .before .before .before .before .before .before .before .before .before .before .before .before .before .before .loop in (
-      omega (arith, c .before .before .before .before .before .before .before .before .before .before .before .before .before .before .before .before .before .loop-test .taken),
-      calls-more _ _ _ (l .inv .1) (ap weightOf (p .remove-edge .ensures)) (c .before .removal-adds .ensures) (c .wrapping-add-u64 .ensures),
-      p .remove-edge .kept .1 .0 ∙ l .inv .2,
-      p .remove-edge .kept .1 .1 .0 ∙ l .inv .3,
-      p .remove-edge .kept .1 .1 .1 .0 ∙ l .inv .4,
-      p .remove-edge .kept .1 .1 .1 .1 .0 ∙ l .inv .5,
+    let p : tie.After-remove-edge Inv-loop μ-loop = search in
+    let t : tie.In-loop Inv-loop μ-loop = search in
+    let l : tie.At-loop Inv-loop μ-loop = search in
+    let i = l .loop .inv in (
+      omega (arith, t .loop-test .taken),
+      calls-more _ _ _ (i .1) (ap weightOf (p .remove-edge .ensures)) (c .before .removal-adds .ensures) (c .wrapping-add-u64 .ensures),
+      p .remove-edge .kept .1 .0 ∙ i .2,
+      p .remove-edge .kept .1 .1 .0 ∙ i .3,
+      p .remove-edge .kept .1 .1 .1 .0 ∙ i .4,
+      p .remove-edge .kept .1 .1 .1 .1 .0 ∙ i .5,
     )
 
 returns : tie.Need-returns Inv-loop μ-loop
 returns c =
+    let s : tie.Start Inv-loop μ-loop = search in
     let l = c .before .loop in
-    let e : l .i ≡ length (now (c .before .before .before .before .before .before .before .args .numbers)) = omega (arith, c .loop-test .left) in
+    let e : l .i ≡ length (now (s .args .numbers)) = omega (arith, c .loop-test .left) in
     rw e at (l .inv .1)
 
 pub loop-remove-edges-spec : {M : Type 1} → statement M

@@ -1,4 +1,4 @@
--- `rows::add_edge` meets its contract: `guards` finds each test's fact; past the tests the parts' columns are the definition's. Assumes nothing.
+-- `rows::add_edge` meets its contract: `guards` finds each test's fact; past the tests the parts' columns are the definition's.
 use Prim.Native.Nat.{ℕ}
 use mathlib.Core.Path.{_≡_, _∙_}
 use native.Mathlib.Omega.{arith}

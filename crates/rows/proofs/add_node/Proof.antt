@@ -1,51 +1,57 @@
--- `rows::add_node` meets its contract: each `return` rewrites with the tests that led there. Assumes nothing.
-use borrow.Author.Needs.{needs}
-use borrow.Author.Tests.{le-ltb}
+-- `rows::add_node` meets its contract: `guards` finds each test's fact; past the tests the part's row is the definition's.
+use Prim.Native.Nat.{ℕ, _+_}
+use mathlib.Core.Path.{_≡_, _∙_}
 use native.Mathlib.Omega.{arith}
+use borrow.Author.Needs.{needs}
 use mir.Facts.{toZ-ofZ}
+use denote.Ref.{now}
+use Rattle.tables.specs.Net.{Net, net, withCounts}
+use Rattle.tables.specs.Answers.{Out, out, done}
+use Rattle.tables.specs.Rows.{bare, withNode}
+use Rattle.tables.proofs.Guards.{guards, FitOf}
+use Rattle.tables.proofs.Laws.{fitting}
 use Rattle.rows.specs.Calls.{addNode}
-use Rattle.tables.proofs.Laws.{misfit, fitted, fitting}
-use Rattle.rows.proofs.Served.{node-added}
+use Rattle.rows.proofs.Served.{node-written}
 use Rattle.rows.proofs.add_node.Statement.{statement}
 use Rattle.rows.proofs.add_node.Tie as tie
 
-returns : tie.Need-returns
+-- the network lent, what the call is to answer, and what it answers where it is served
+abbrev lent : tie.Start → Net
+lent s = net (now (s .args .weights)) (now (s .args .heads)) (now (s .args .registers)) (now (s .args .links)) (now (s .args .ends)) (now (s .args .n)) (s .args .m)
+
+abbrev asked : tie.Start → Out ℕ Net
+asked s = addNode (lent s) (s .args .w)
+
+abbrev served : tie.Start → Out ℕ Net
+served s = let g = lent s in out (done (g .n)) (withCounts (withNode g (g .n) (bare (s .args .w))) (g .n + 1) (g .m))
+
+-- past the first test, and past the last
+fit : (c : tie.Else1) → FitOf (lent (search))
+fit c = fitting (c .before .fits2 .ensures) (c .if1 .left)
+
+past : (c : tie.After-bare) → let s : tie.Start = search in served s ≡ asked s
 unfolding addNode
-returns c = rw (misfit (c .before .fits2 .ensures) (c .if1 .taken))
+past c = search guards depth 9
 
-returns-2 : tie.Need-returns-2
-unfolding addNode
-returns-2 c = rw (fitted (c .before .before .fits2 .ensures) (c .before .if1 .left), le-ltb _ _ (c .if2 .taken))
-
-write-node-requires : tie.Need-write-node-requires
-write-node-requires c κs =
-    let f = fitting (c .before .before .before .before .before .fits2 .ensures) (c .before .before .before .before .if1 .left) in
-    omega arith
-
-add-n : tie.Need-add-n
-add-n c =
-    let f = fitting (c .before .before .before .before .before .before .before .before .before .fits2 .ensures) (c .before .before .before .before .before .before .before .before .if1 .left) in
-    omega (arith, c .before .before .before .before .before .before .before .if2 .left)
-
-returns-3 : tie.Need-returns-3
-returns-3 c =
-    let q = c .before .before .before .write-node .ensures in
-    node-added _ _ (fitted (c .before .before .before .before .before .before .before .before .before .fits2 .ensures) (c .before .before .before .before .before .before .before .before .if1 .left)) (c .before .before .before .before .before .before .before .if2 .left) (rw (toZ-ofZ (c .before .before .before .before .before .before .before .before .before .before .before .before .before .before .before .before .before .fits .w)) at (c .before .before .before .before .bare .ensures)) (q .weights-are) (q .heads-are)
+-- the row that is written
+row-is : (c : tie.After-bare) → let s : tie.Start = search in c .bare .result ≡ bare (s .args .w)
+row-is c = let s : tie.Start = search in rw (toZ-ofZ (s .fits .w)) at (c .bare .ensures)
 
 pub add-node-spec : {M : Type 1} → statement M
+unfolding addNode
 add-node-spec =
     tie.close
     (tie.spec
     (λ c κs. search needs)
     (λ c. search needs)
     (λ c. search needs)
-    returns
+    (λ c. search guards depth 9)
     (λ c. search needs)
     (λ c. search needs)
-    returns-2
+    (λ c. search guards depth 9)
     (λ c κs. search needs)
-    write-node-requires
-    add-n
+    (λ c κs. let f = fit (search) in omega arith)
+    (λ c. let f = fit (search) in omega arith)
     (λ c. search needs)
     (λ c. search needs)
-    returns-3)
+    (λ c. let d : tie.After-write-node = search in node-written _ _ _ _ _ _ _ _ _ (row-is (search)) (d .write-node .ensures) ∙ past (search)))

@@ -1,52 +1,30 @@
--- `rows::all_edge_weights` meets its contract: each `return` rewrites with the tests that led there. Assumes nothing.
+-- `rows::all_edge_weights` meets its contract: `guards` finds each test's fact; past the tests the front of the table is the column's.
+use mathlib.Core.Path.{_≡_, sym, _∙_}
 use borrow.Author.Needs.{needs}
-use mathlib.Core.Path.{sym, _∙_}
-use borrow.Author.Tests.{lt-leb}
+use denote.Ref.{now}
+use lib.ListN.{length, take}
 use lib.Seq.{length-take-le}
+use Rattle.tables.proofs.Guards.{guards}
+use Rattle.tables.proofs.Laws.{fitting}
 use Rattle.rows.specs.Calls.{allEdgeWeights}
-use Rattle.tables.proofs.Laws.{misfit, fitted, fitting}
-use Rattle.rows.proofs.Served.{items-given}
 use Rattle.rows.proofs.all_edge_weights.Statement.{statement}
 use Rattle.rows.proofs.all_edge_weights.Tie as tie
 
-returns : tie.Need-returns
-unfolding allEdgeWeights
-returns c = rw (misfit (c .before .fits2 .ensures) (c .if1 .taken))
-
-returns-2 : tie.Need-returns-2
-unfolding allEdgeWeights
-returns-2 c =
-    let f = fitting (c .before .before .fits2 .ensures) (c .before .if1 .left) in
-    rw (fitted (c .before .before .fits2 .ensures) (c .before .if1 .left), length-take-le _ _ (f .m-within), lt-leb _ _ (c .if2 .taken))
-
-slice-aggregate-copy : tie.Need-slice-aggregate-copy
-slice-aggregate-copy c =
-    let f = fitting (c .before .before .before .fits2 .ensures) (c .before .before .if1 .left) in
-    sym (length-take-le _ _ (f .m-within))
-
-slice-aggregate-copy-2 : tie.Need-slice-aggregate-copy-2
-slice-aggregate-copy-2 c = sym (length-take-le _ _ (c .before .before .if2 .left))
-
-copy-requires : tie.Need-copy-requires
-copy-requires c κs =
-    let f = fitting (c .before .before .before .before .fits2 .ensures) (c .before .before .before .if1 .left) in
-    length-take-le _ _ (f .m-within) ∙ sym (length-take-le _ _ (c .before .before .if2 .left))
-
-returns-3 : tie.Need-returns-3
-returns-3 c =
-    let f = fitting (c .before .before .before .before .before .before .before .fits2 .ensures) (c .before .before .before .before .before .before .if1 .left) in
-    items-given _ _ (fitted (c .before .before .before .before .before .before .before .fits2 .ensures) (c .before .before .before .before .before .before .if1 .left)) (f .m-within) (c .before .before .before .before .before .if2 .left) (rw (c .before .before .copy .ensures))
+-- past the first test the column has m register numbers
+counted : (c : tie.Else1) → let s : tie.Start = search in length (take (s .args .m) (now (s .args .registers))) ≡ s .args .m
+counted c = length-take-le _ _ (fitting (c .before .fits2 .ensures) (c .if1 .left) .m-within)
 
 pub all-edge-weights-spec : {M : Type 1} → statement M
+unfolding allEdgeWeights
 all-edge-weights-spec =
     tie.close
     (tie.spec
     (λ c κs. search needs)
-    returns
-    returns-2
-    slice-aggregate-copy
+    (λ c. search guards depth 9)
+    (λ c. rw (counted (search)) (search guards depth 9))
+    (λ c. sym (counted (search)))
     (λ c. search needs)
-    slice-aggregate-copy-2
-    copy-requires
+    (λ c. let e : tie.Else2 = search in sym (length-take-le _ _ (e .if2 .left)))
+    (λ c κs. let e : tie.Else2 = search in counted (search) ∙ sym (length-take-le _ _ (e .if2 .left)))
     (λ c. search needs)
-    returns-3)
+    (λ c. let d : tie.After-copy = search in rw (counted (search), d .copy .ensures) (search guards depth 9)))

@@ -1,43 +1,55 @@
--- `rows::clear_edges` meets its contract: each column is what its part leaves. Assumes nothing.
-use borrow.Author.Needs.{needs}
+-- `rows::clear_edges` meets its contract: `guards` finds each test's fact; past the tests each column is what its part leaves.
+use Prim.{Unit, tt}
+use mathlib.Core.Path.{_≡_, sym, _∙_}
 use native.Mathlib.Omega.{arith}
-use Prim.Native.Nat.{_*_}
-use mathlib.Core.Path.{sym}
+use borrow.Author.Needs.{needs}
 use denote.Ref.{now}
 use lib.Seq.{length-take-le}
-use Rattle.rows.specs.Calls.{clearEdges}
-use Rattle.tables.proofs.Laws.{misfit, fitted, fitting}
+use Prim.Native.Nat.{_*_}
+use Rattle.index.specs.Index.{END}
+use Rattle.tables.specs.Net.{Net, net, withNodes, withCounts, nodeCells}
+use Rattle.tables.specs.Answers.{Out, out, done}
+use Rattle.tables.specs.Rows.{filled, vacantEdges}
+use Rattle.tables.proofs.Guards.{guards, FitOf}
+use Rattle.tables.proofs.Laws.{fitting}
 use Rattle.tables.proofs.Front.{prefix-filled}
-use Rattle.rows.proofs.Served.{edges-cleared}
+use Rattle.rows.specs.Calls.{clearEdges}
+use Rattle.rows.proofs.Served.{edges-vacated}
 use Rattle.rows.proofs.clear_edges.Statement.{statement}
 use Rattle.rows.proofs.clear_edges.Tie as tie
 
-returns : tie.Need-returns
+-- the network lent, what the call is to answer, and what it answers where it is served
+abbrev lent : tie.Start → Net
+lent s = net (now (s .args .weights)) (now (s .args .heads)) (now (s .args .registers)) (now (s .args .links)) (now (s .args .ends)) (s .args .n) (now (s .args .m))
+
+abbrev asked : tie.Start → Out Unit Net
+asked s = clearEdges (lent s)
+
+abbrev served : tie.Start → Out Unit Net
+served s = let g = lent s in out (done tt) (withCounts (withNodes (vacantEdges g 0 (g .m)) (g .weights) (filled (g .heads) 0 (nodeCells * g .n) END)) (g .n) 0)
+
+-- past the first test, and past the last
+fit : (c : tie.Else1) → FitOf (lent (search))
+fit c = fitting (c .before .fits2 .ensures) (c .if1 .left)
+
+past : (c : tie.After-vacate-edges-arg) → let s : tie.Start = search in served s ≡ asked s
 unfolding clearEdges
-returns c = rw (misfit (c .before .fits2 .ensures) (c .if1 .taken))
+past c = search guards depth 9
 
-vacate-edges-requires : tie.Need-vacate-edges-requires
-vacate-edges-requires c κs =
-    let f = fitting (c .before .before .before .before .before .fits2 .ensures) (c .before .before .before .before .if1 .left) in
-    omega arith
-
-slice-relend-prefix-fill : tie.Need-slice-relend-prefix-fill
-slice-relend-prefix-fill c =
-    let f = fitting (c .before .before .before .before .before .before .before .before .before .before .before .before .fits2 .ensures) (c .before .before .before .before .before .before .before .before .before .before .before .if1 .left) in
-    omega arith
-
-slice-aggregate-fill : tie.Need-slice-aggregate-fill
-slice-aggregate-fill c =
-    let f = fitting (c .before .before .before .before .before .before .before .before .before .before .before .before .before .fits2 .ensures) (c .before .before .before .before .before .before .before .before .before .before .before .before .if1 .left) in
-    sym (length-take-le _ _ (omega arith))
+abbrev begin : tie.Else1 → tie.Start
+begin c = search
 
 returns-2 : tie.Need-returns-2
 returns-2 c =
-    let f = fitting (c .before .before .before .before .before .before .before .before .before .before .before .before .before .before .before .before .fits2 .ensures) (c .before .before .before .before .before .before .before .before .before .before .before .before .before .before .before .if1 .left) in
-    let q = c .before .before .before .before .before .before .before .before .before .before .vacate-edges .ensures in
-    edges-cleared _ (fitted (c .before .before .before .before .before .before .before .before .before .before .before .before .before .before .before .before .fits2 .ensures) (c .before .before .before .before .before .before .before .before .before .before .before .before .before .before .before .if1 .left)) (prefix-filled (now (c .before .before .before .before .before .before .before .before .before .before .before .before .before .before .before .before .before .before .before .before .before .before .before .before .before .before .args .heads)) (2 * c .before .before .before .before .before .before .before .before .before .before .before .before .before .before .before .before .before .before .before .before .before .before .before .before .before .before .args .n) _ _ (omega arith) (c .before .before .fill .ensures)) (q .registers-are) (q .links-are) (q .ends-are)
+    let d : tie.After-fill = search in
+    let e : tie.After-vacate-edges = search in
+    let s = begin (search) in
+    let f = fit (search) in
+    let heads = prefix-filled (now (s .args .heads)) (nodeCells * s .args .n) _ _ (omega arith) (d .fill .ensures) in
+    edges-vacated _ _ _ _ _ _ _ _ heads (e .vacate-edges .ensures) ∙ past (search)
 
 pub clear-edges-spec : {M : Type 1} → statement M
+unfolding clearEdges
 clear-edges-spec =
     tie.close
     (tie.spec
@@ -46,11 +58,11 @@ clear-edges-spec =
     (λ c. search needs)
     (λ c. search needs)
     (λ c. search needs)
-    returns
-    vacate-edges-requires
+    (λ c. search guards depth 9)
+    (λ c κs. let f = fit (search) in omega arith)
     (λ c. search needs)
-    slice-relend-prefix-fill
-    slice-aggregate-fill
+    (λ c. let f = fit (search) in omega arith)
+    (λ c. let f = fit (search) in sym (length-take-le _ _ (omega arith)))
     (λ c κs. search needs)
     (λ c. search needs)
     (λ c. search needs)

@@ -1,56 +1,59 @@
--- `sound::check` meets its contract, by what each direction gives. Assumes nothing.
+-- `sound::check` meets its contract: `guards` finds each test's fact; past the tests it is told by what each direction gives.
+use mathlib.Core.Path.{_≡_}
 use native.Mathlib.Omega.{arith}
 use borrow.Author.Needs.{needs}
-use Rattle.tables.proofs.Laws.{misfit, fitted, fitting}
-use Rattle.sound.specs.Check.{checked}
+use denote.Ref.{now}
+use Rattle.tables.specs.Net.{Net, net}
+use Rattle.tables.proofs.Guards.{guards, FitOf}
+use Rattle.tables.proofs.Laws.{fitting}
+use Rattle.sound.specs.declared.Walked.{Walked}
+use Rattle.sound.specs.declared.Walked.the-variants.{Read}
+use Rattle.sound.specs.Check.{way, verdict, checked}
 use Rattle.sound.proofs.Exact.{way-rows}
-use Rattle.sound.proofs.Exactly.{fault-out, fault-in, no-fault}
 use Rattle.sound.proofs.check.Statement.{statement}
 use Rattle.sound.proofs.check.Tie as tie
 
-returns : tie.Need-returns
+abbrev lent : tie.Start → Net
+lent s = net (now (s .args .weights)) (now (s .args .heads)) (now (s .args .registers)) (now (s .args .links)) (now (s .args .ends)) (s .args .n) (s .args .m)
+
+-- past the first test
+fit : (c : tie.Else1) → FitOf (lent (search))
+fit c = fitting (c .before .fits2 .ensures) (c .if1 .left)
+
+-- by what the outgoing lists gave, and by what the incoming ones gave
+out-told : (c : tie.After-walk-lists) (v : Walked) → c .walk-lists .result ≡ v → let s : tie.Start = search in verdict v (way (lent s) 1) ≡ checked (lent s)
 unfolding checked
-returns c = rw (misfit (c .before .fits2 .ensures) (c .if1 .taken))
+out-told c v e = rw (← e, c .walk-lists .ensures) (search guards depth 9)
 
-walk-lists-requires : tie.Need-walk-lists-requires
-walk-lists-requires c κs =
-    let f = fitting (c .before .fits2 .ensures) (c .if1 .left) in
-    record { heads-hold = omega arith; edges = record { links-hold = omega arith; ends-hold = omega arith; direction = omega arith } }
-
-walk-lists-requires-2 : tie.Need-walk-lists-requires-2
-walk-lists-requires-2 c κs =
-    let f = fitting (c .before .before .before .before .before .fits2 .ensures) (c .before .before .before .before .if1 .left) in
-    record { heads-hold = omega arith; edges = record { links-hold = omega arith; ends-hold = omega arith; direction = omega arith } }
+in-told : (c : tie.After-walk-lists2) (v : Walked) → c .walk-lists2 .result ≡ v → let s : tie.Start = search in let d : tie.After-q = search in
+    verdict (Read (d .q .given .0 .0)) v ≡ checked (lent s)
+in-told c v e = let d : tie.After-q = search in rw (← e, c .walk-lists2 .ensures) (out-told (search) _ (d .q .given .1))
 
 add-t23 : tie.Need-add-t23
 add-t23 c =
-    let f = fitting (c .before .before .before .before .before .before .before .before .before .fits2 .ensures) (c .before .before .before .before .before .before .before .before .if1 .left) in
-    let q = way-rows _ _ _ _ _ _ (omega arith) (c .before .before .before .before .before .before .before .walk-lists .ensures) (c .before .before .before .before .before .q .given .1) in
-    let r = way-rows _ _ _ _ _ _ (omega arith) (c .before .before .before .walk-lists2 .ensures) (c .before .r .given .1) in
+    let f = fit (search) in
+    let r : tie.After-r = search in
+    let i : tie.After-walk-lists2 = search in
+    let q : tie.After-q = search in
+    let o : tie.After-walk-lists = search in
+    let out-rows = way-rows _ _ _ _ _ _ (omega arith) (o .walk-lists .ensures) (q .q .given .1) in
+    let in-rows = way-rows _ _ _ _ _ _ (omega arith) (i .walk-lists2 .ensures) (r .r .given .1) in
     record { fits = omega arith }
 
-returns-2 : tie.Need-returns-2
-returns-2 c = fault-out _ _ (fitted (c .before .before .before .before .before .fits2 .ensures) (c .before .before .before .before .if1 .left)) (c .before .before .before .walk-lists .ensures) _ (c .before .a .given .1)
-
-returns-3 : tie.Need-returns-3
-returns-3 c = fault-in _ _ (fitted (c .before .before .before .before .before .before .before .before .before .fits2 .ensures) (c .before .before .before .before .before .before .before .before .if1 .left)) (c .before .before .before .before .before .before .before .walk-lists .ensures) _ (c .before .before .before .walk-lists2 .ensures) _ _ (c .before .before .before .before .before .q .given .1) (c .before .a2 .given .1)
-
-returns-4 : tie.Need-returns-4
-returns-4 c = no-fault _ _ (fitted (c .before .before .before .before .before .before .before .before .before .fits2 .ensures) (c .before .before .before .before .before .before .before .before .if1 .left)) (c .before .before .before .before .before .before .before .walk-lists .ensures) _ (c .before .before .before .walk-lists2 .ensures) _ _ (c .before .before .before .before .before .q .given .1) (c .before .r .given .1)
-
 pub check-spec : {M : Type 1} → statement M
+unfolding checked
 check-spec =
     tie.close
     (tie.spec
     (λ c κs. search needs)
-    returns
-    walk-lists-requires
+    (λ c. search guards depth 9)
+    (λ c κs. let f = fit (search) in record { heads-hold = omega arith; edges = record { links-hold = omega arith; ends-hold = omega arith; direction = omega arith } })
     (λ c. search needs)
     (λ c. search needs)
-    walk-lists-requires-2
+    (λ c κs. let f = fit (search) in record { heads-hold = omega arith; edges = record { links-hold = omega arith; ends-hold = omega arith; direction = omega arith } })
     (λ c. search needs)
     (λ c. search needs)
     add-t23
-    returns-2
-    returns-3
-    returns-4)
+    (λ c. let v : tie.After-a = search in out-told (search) _ (v .a .given .1))
+    (λ c. let v : tie.After-a2 = search in in-told (search) _ (v .a2 .given .1))
+    (λ c. let v : tie.After-r = search in in-told (search) _ (v .r .given .1)))

@@ -1,92 +1,95 @@
--- `walker::sum_around` meets its contract: each `return` rewrites with the tests that led there, or with what the two lists added. Assumes nothing.
-use mathlib.Core.Path.{sym, _∙_}
-use borrow.Author.Needs.{needs}
-use borrow.Author.Tests.{le-ltb}
+-- `walker::sum_around` meets its contract: `guards` finds each test's fact; past the tests it is told by what the two lists added.
+use Prim.Native.Nat.{ℕ}
+use mathlib.Core.Path.{_≡_, sym, _∙_}
 use native.Mathlib.Omega.{arith}
+use borrow.Author.Needs.{needs}
+use denote.Ref.{now}
 use mir.Syntax.{w64}
+use mir.Val.{toZ, ofZ}
 use mir.Facts.{toZ-ofZ}
-use Rattle.tables.proofs.Laws.{misfit, fitted, fitting}
+use Rattle.tables.specs.Net.{Net, net}
+use Rattle.tables.proofs.Guards.{guards, FitOf}
+use Rattle.tables.proofs.Laws.{fitting}
+use Rattle.walker.specs.declared.Tally.{Tally}
+use Rattle.walker.specs.declared.Tally.the-variants.{Total}
 use Rattle.walker.specs.Sums.{sumAround}
-use Rattle.walker.proofs.Around.{sum-stops, sum-stops-later, summed}
+use Rattle.walker.proofs.Around.{ofLists, outAdds, inAdds, sum-stops, sum-stops-later, summed}
 use Rattle.walker.proofs.sum_around.Statement.{statement}
 use Rattle.walker.proofs.sum_around.Tie as tie
 
-returns : tie.Need-returns
-unfolding sumAround
-returns c = rw (misfit (c .before .fits2 .ensures) (c .if1 .taken))
+abbrev lent : tie.Start → Net
+lent s = net (now (s .args .weights)) (now (s .args .heads)) (now (s .args .registers)) (now (s .args .links)) (now (s .args .ends)) (s .args .n) (s .args .m)
 
-returns-2 : tie.Need-returns-2
-unfolding sumAround
-returns-2 c = rw (fitted (c .before .before .before .fits2 .ensures) (c .before .before .if1 .left), le-ltb (c .before .before .before .before .before .before .before .before .args .a .0) (c .before .before .before .before .before .before .before .before .args .n) (omega (arith, c .if2 .taken)))
+-- past the first test, and past the last
+fit : (c : tie.Else1) → FitOf (lent (search))
+fit c = fitting (c .before .fits2 .ensures) (c .if1 .left)
 
-shared-slice-read-e : tie.Need-shared-slice-read-e
-shared-slice-read-e c =
-    let f = fitting (c .before .before .before .before .before .fits2 .ensures) (c .before .before .before .before .if1 .left) in
-    omega arith
+past : (c : tie.After-index) → let s : tie.Start = search in ofLists (lent s) (s .args .a .0) ≡ sumAround (lent s) (s .args .a .0)
+unfolding sumAround ofLists
+past c = search guards depth 9
 
-sum-requires : tie.Need-sum-requires
-sum-requires c κs =
-    let f = fitting (c .before .before .before .before .before .fits2 .ensures) (c .before .before .before .before .if1 .left) in
-    record { edges = record { links-hold = omega arith; ends-hold = omega arith; direction = omega arith }; weights-hold = omega arith; room = omega arith }
+-- what the outgoing list adds, and that 64 bits hold it
+out-adds : (c : tie.After-sum) (v : Tally) → c .sum .result ≡ v → let s : tie.Start = search in outAdds (lent s) (s .args .a .0) v
+out-adds c v e = let i : tie.After-index = search in rw (i .index .ensures) at (sym e ∙ c .sum .ensures .answer-is)
 
-returns-3 : tie.Need-returns-3
-returns-3 c = let q = c .before .before .before .before .index .ensures in sum-stops _ _ (fitted (c .before .before .before .before .before .before .before .before .fits2 .ensures) (c .before .before .before .before .before .before .before .if1 .left)) (c .before .before .before .before .before .if2 .left) (rw q at (sym (c .enum-told .given .1) ∙ c .before .before .sum .ensures .answer-is))
+held : (c : tie.After-z) → toZ w64 (ofZ w64 (c .z .given .0 .0)) ≡ c .z .given .0 .0
+held c =
+    let f = fit (search) in
+    let d : tie.After-sum = search in
+    let l = rw (c .z .given .1) at (d .sum .ensures .small) in
+    toZ-ofZ {w = w64} {z = c .z .given .0 .0} (record { sfits = omega arith })
 
-shared-slice-read-i : tie.Need-shared-slice-read-i
-shared-slice-read-i c =
-    let f = fitting (c .before .before .before .before .before .before .before .before .before .before .fits2 .ensures) (c .before .before .before .before .before .before .before .before .before .if1 .left) in
-    omega arith
+-- and the incoming one
+in-adds : (c : tie.After-sum2) (v : Tally) → c .sum2 .result ≡ v → let s : tie.Start = search in let d : tie.After-z = search in
+    inAdds (lent s) (s .args .a .0) (toZ w64 (ofZ w64 (d .z .given .0 .0))) v
+in-adds c v e = let i : tie.After-index = search in rw (i .index .ensures) at (sym e ∙ c .sum2 .ensures .answer-is)
+
+held-too : (c : tie.After-z2) → toZ w64 (ofZ w64 (c .z2 .given .0 .0)) ≡ c .z2 .given .0 .0
+held-too c =
+    let d : tie.After-sum2 = search in
+    let o : tie.After-z = search in
+    let l = rw (c .z2 .given .1, held (search)) at (d .sum2 .ensures .small) in
+    let f = fit (search) in
+    let b : tie.After-sum = search in
+    let k = rw (o .z .given .1) at (b .sum .ensures .small) in
+    toZ-ofZ {w = w64} {z = c .z2 .given .0 .0} (record { sfits = omega arith })
 
 sum-requires-2 : tie.Need-sum-requires-2
 sum-requires-2 c κs =
-    let f = fitting (c .before .before .before .before .before .before .before .before .before .before .fits2 .ensures) (c .before .before .before .before .before .before .before .before .before .if1 .left) in
-    let s = rw (c .before .before .z .given .1) at (c .before .before .before .before .sum .ensures .small) in
-    let back = toZ-ofZ {w = w64} {z = c .before .before .z .given .0 .0} (record { sfits = omega arith }) in
-    record { edges = record { links-hold = omega arith; ends-hold = omega arith; direction = omega arith }; weights-hold = omega arith; room = rw back (omega arith) }
-
-returns-4 : tie.Need-returns-4
-returns-4 c =
-    let f = fitting (c .before .before .before .before .before .before .before .before .before .before .before .before .before .before .fits2 .ensures) (c .before .before .before .before .before .before .before .before .before .before .before .before .before .if1 .left) in
-    let q = c .before .before .before .before .before .before .before .before .before .before .index .ensures in
-    let s = rw (c .before .before .before .before .before .before .z .given .1) at (c .before .before .before .before .before .before .before .before .sum .ensures .small) in
-    let back = toZ-ofZ {w = w64} {z = c .before .before .before .before .before .before .z .given .0 .0} (record { sfits = omega arith }) in
-    let t = rw (c .before .z2 .given .1, back) at (c .before .before .before .sum2 .ensures .small) in
-    let o = rw q at (sym (c .before .before .before .before .before .before .z .given .1) ∙ c .before .before .before .before .before .before .before .before .sum .ensures .answer-is) in
-    let i = rw q at (sym (c .before .z2 .given .1) ∙ c .before .before .before .sum2 .ensures .answer-is) in
-    rw (toZ-ofZ {w = w64} {z = c .before .z2 .given .0 .0} (record { sfits = omega arith }))
-    (summed _ _ (fitted (c .before .before .before .before .before .before .before .before .before .before .before .before .before .before .fits2 .ensures) (c .before .before .before .before .before .before .before .before .before .before .before .before .before .if1 .left)) (c .before .before .before .before .before .before .before .before .before .before .before .if2 .left) o back i)
-
-returns-5 : tie.Need-returns-5
-returns-5 c =
-    let f = fitting (c .before .before .before .before .before .before .before .before .before .before .before .before .before .fits2 .ensures) (c .before .before .before .before .before .before .before .before .before .before .before .before .if1 .left) in
-    let q = c .before .before .before .before .before .before .before .before .before .index .ensures in
-    let s = rw (c .before .before .before .before .before .z .given .1) at (c .before .before .before .before .before .before .before .sum .ensures .small) in
-    let back = toZ-ofZ {w = w64} {z = c .before .before .before .before .before .z .given .0 .0} (record { sfits = omega arith }) in
-    let o = rw q at (sym (c .before .before .before .before .before .z .given .1) ∙ c .before .before .before .before .before .before .before .sum .ensures .answer-is) in
-    let i = rw q at (sym (c .enum-told2 .given .1) ∙ c .before .before .sum2 .ensures .answer-is) in
-    sum-stops-later _ _ (fitted (c .before .before .before .before .before .before .before .before .before .before .before .before .before .fits2 .ensures) (c .before .before .before .before .before .before .before .before .before .before .before .before .if1 .left)) (c .before .before .before .before .before .before .before .before .before .before .if2 .left) o back i
+    let f = fit (search) in
+    let z : tie.After-z = search in
+    let d : tie.After-sum = search in
+    let l = rw (z .z .given .1) at (d .sum .ensures .small) in
+    record { edges = record { links-hold = omega arith; ends-hold = omega arith; direction = omega arith }; weights-hold = omega arith; room = rw (held (search)) (omega arith) }
 
 pub sum-around-spec : {M : Type 1} → statement M
+unfolding sumAround
 sum-around-spec =
     tie.close
     (tie.spec
     (λ c κs. search needs)
-    returns
-    returns-2
+    (λ c. search guards depth 9)
+    (λ c. search guards depth 9)
     (λ c κs. search needs)
     (λ c. search needs)
     (λ c. search needs)
     (λ c. search needs)
-    shared-slice-read-e
-    sum-requires
+    (λ c. let f = fit (search) in omega arith)
+    (λ c κs. let f = fit (search) in
+    record { edges = record { links-hold = omega arith; ends-hold = omega arith; direction = omega arith }; weights-hold = omega arith; room = omega arith })
     (λ c. search needs)
     (λ c. search needs)
-    returns-3
+    (λ c. sum-stops _ _ (out-adds (search) _ (c .enum-told .given .1)) ∙ past (search))
     (λ c. search needs)
     (λ c. search needs)
-    shared-slice-read-i
+    (λ c. let f = fit (search) in omega arith)
     sum-requires-2
     (λ c. search needs)
     (λ c. search needs)
-    returns-4
-    returns-5)
+    (λ c.
+    let y : tie.After-z2 = search in
+    let z : tie.After-z = search in
+    rw (held-too (search)) (summed _ _ (out-adds (search) _ (z .z .given .1)) (held (search)) (in-adds (search) _ (y .z2 .given .1)) ∙ past (search)))
+    (λ c.
+    let z : tie.After-z = search in
+    sum-stops-later _ _ (out-adds (search) _ (z .z .given .1)) (held (search)) (in-adds (search) _ (c .enum-told2 .given .1)) ∙ past (search)))

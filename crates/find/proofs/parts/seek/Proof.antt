@@ -1,46 +1,37 @@
--- `parts::seek` meets its contract: each arm is told by how the search of a list ended. Assumes nothing.
-use mathlib.Core.Path.{sym, _∙_}
+-- `parts::seek` meets its contract: each arm is told by how the search of a list ended.
+use Prim.Native.Nat.{ℕ}
+use mathlib.Core.Path.{_≡_, sym, _∙_}
 use borrow.Author.Needs.{needs}
 use denote.Ref.{now}
-use Rattle.find.specs.Parts.{soughtFrom}
-use Rattle.find.proofs.Laws.{search-row, search-broken, search-end}
+use Rattle.lists.specs.declared.Found.{Found}
+use Rattle.find.specs.declared.Sought.{Sought}
+use Rattle.find.specs.declared.Sought.the-variants.{Missing}
+use Rattle.find.specs.Parts.{searched, soughtFrom}
+use Rattle.find.proofs.Laws.{after, told-by}
 use Rattle.find.proofs.parts.seek.Statement.{statement}
 use Rattle.find.proofs.parts.seek.Tie as tie
 
-returns : tie.Need-returns
-unfolding soughtFrom
-returns c =
-    let a = c .before .before .before .before .before .before .before .before .before .args in
-    search-row (now (a .heads)) (now (a .links)) (now (a .ends)) (a .m) (a .a .0) (a .b .0) 0 _ (rw (c .before .before .before .before .before .index .ensures) at (sym (c .before .before .before .first .ensures) ∙ c .before .out .given .1))
+-- the search from node a's list in direction k on
+abbrev from : tie.Start → ℕ → Sought → Sought
+from s k next = let a = s .args in searched (now (a .heads)) (now (a .links)) (now (a .ends)) (a .m) (a .a .0) (a .b .0) k next
 
-returns-2 : tie.Need-returns-2
-unfolding soughtFrom
-returns-2 c =
-    let a = c .before .before .before .before .before .before .before .before .args in
-    search-broken (now (a .heads)) (now (a .links)) (now (a .ends)) (a .m) (a .a .0) (a .b .0) 0 _ (rw (c .before .before .before .before .index .ensures) at (sym (c .before .before .first .ensures) ∙ c .enum-told .given .1))
+-- by how each list's search ended
+out-told : (c : tie.After-first) (v : Found) → c .first .result ≡ v → let s : tie.Start = search in let rest = from s 1 Missing in after 0 v rest ≡ from s 0 rest
+out-told c v e =
+    let i : tie.After-index = search in
+    let s : tie.Start = search in
+    let a = s .args in
+    told-by (now (a .heads)) (now (a .links)) (now (a .ends)) (a .m) (a .a .0) (a .b .0) 0 _ v (rw (i .index .ensures) at (sym (c .first .ensures) ∙ e))
 
-returns-3 : tie.Need-returns-3
-unfolding soughtFrom
-returns-3 c =
-    let a = c .before .before .before .before .before .before .before .before .before .before .before .before .before .args in
-    search-row (now (a .heads)) (now (a .links)) (now (a .ends)) (a .m) (a .a .0) (a .b .0) 1 _ (rw (c .before .before .before .before .before .before .before .before .before .index .ensures) at (sym (c .before .before .before .first2 .ensures) ∙ c .before .back .given .1))
-    ∙ search-end (now (a .heads)) (now (a .links)) (now (a .ends)) (a .m) (a .a .0) (a .b .0) 0 _ (rw (c .before .before .before .before .before .before .before .before .before .index .ensures) at (sym (c .before .before .before .before .before .before .before .first .ensures) ∙ c .before .before .before .before .before .enum-told2 .given .1))
-
-returns-4 : tie.Need-returns-4
-unfolding soughtFrom
-returns-4 c =
-    let a = c .before .before .before .before .before .before .before .before .before .before .before .before .args in
-    search-broken (now (a .heads)) (now (a .links)) (now (a .ends)) (a .m) (a .a .0) (a .b .0) 1 _ (rw (c .before .before .before .before .before .before .before .before .index .ensures) at (sym (c .before .before .first2 .ensures) ∙ c .enum-told3 .given .1))
-    ∙ search-end (now (a .heads)) (now (a .links)) (now (a .ends)) (a .m) (a .a .0) (a .b .0) 0 _ (rw (c .before .before .before .before .before .before .before .before .index .ensures) at (sym (c .before .before .before .before .before .before .first .ensures) ∙ c .before .before .before .before .enum-told2 .given .1))
-
-returns-5 : tie.Need-returns-5
-unfolding soughtFrom
-returns-5 c =
-    let a = c .before .before .before .before .before .before .before .before .before .before .before .before .args in
-    search-end (now (a .heads)) (now (a .links)) (now (a .ends)) (a .m) (a .a .0) (a .b .0) 1 _ (rw (c .before .before .before .before .before .before .before .before .index .ensures) at (sym (c .before .before .first2 .ensures) ∙ c .enum-told4 .given .1))
-    ∙ search-end (now (a .heads)) (now (a .links)) (now (a .ends)) (a .m) (a .a .0) (a .b .0) 0 _ (rw (c .before .before .before .before .before .before .before .before .index .ensures) at (sym (c .before .before .before .before .before .before .first .ensures) ∙ c .before .before .before .before .enum-told2 .given .1))
+back-told : (c : tie.After-first2) (v : Found) → c .first2 .result ≡ v → let s : tie.Start = search in after 1 v Missing ≡ from s 1 Missing
+back-told c v e =
+    let i : tie.After-index = search in
+    let s : tie.Start = search in
+    let a = s .args in
+    told-by (now (a .heads)) (now (a .links)) (now (a .ends)) (a .m) (a .a .0) (a .b .0) 1 _ v (rw (i .index .ensures) at (sym (c .first2 .ensures) ∙ e))
 
 pub seek-spec : {M : Type 1} → statement M
+unfolding soughtFrom
 seek-spec =
     tie.close
     (tie.spec
@@ -60,8 +51,8 @@ seek-spec =
     (λ c. search needs)
     (λ c. search needs)
     (λ c. search needs)
-    returns
-    returns-2
-    returns-3
-    returns-4
-    returns-5)
+    (λ c. let v : tie.After-out = search in out-told (search) _ (v .out .given .1))
+    (λ c. out-told (search) _ (c .enum-told .given .1))
+    (λ c. let v : tie.After-back = search in let e : tie.After-enum-told2 = search in back-told (search) _ (v .back .given .1) ∙ out-told (search) _ (e .enum-told2 .given .1))
+    (λ c. let e : tie.After-enum-told2 = search in back-told (search) _ (c .enum-told3 .given .1) ∙ out-told (search) _ (e .enum-told2 .given .1))
+    (λ c. let e : tie.After-enum-told2 = search in back-told (search) _ (c .enum-told4 .given .1) ∙ out-told (search) _ (e .enum-told2 .given .1)))

@@ -1,14 +1,8 @@
--- `parts::edge_adds` meets its contract: each arm adds what its case tells. Assumes nothing.
+-- `parts::edge_adds` meets its contract: each arm adds what its case tells.
 use native.Mathlib.Omega.{arith}
 use borrow.Author.Needs.{needs}
 use Rattle.loops.proofs.parts.edge_adds.Statement.{statement}
 use Rattle.loops.proofs.parts.edge_adds.Tie as tie
-
-returns : tie.Need-returns
-returns c = rw (c .before .before .answer .given .1) (omega arith)
-
-returns-2 : tie.Need-returns-2
-returns-2 c = rw (c .before .before .answer2 .given .1, c .number .ensures) (omega arith)
 
 pub edge-adds-spec : {M : Type 1} → statement M
 edge-adds-spec =
@@ -19,5 +13,5 @@ edge-adds-spec =
     (λ c. search needs)
     (λ c κs. search needs)
     (λ c. search needs)
-    returns
-    returns-2)
+    (λ c. let v : tie.After-answer = search in rw (v .answer .given .1) (omega arith))
+    (λ c. let v : tie.After-answer2 = search in rw (v .answer2 .given .1, c .number .ensures) (omega arith)))

@@ -1,4 +1,4 @@
--- `parts::items_add` meets its contract: each arm adds what its case tells. Assumes nothing.
+-- `parts::items_add` meets its contract: each arm adds what its case tells.
 use mathlib.Core.Path.{sym, ap, _∙_}
 use native.Mathlib.Nat.{zero-add}
 use native.Mathlib.Omega.{arith}
@@ -9,13 +9,16 @@ use Rattle.loops.proofs.parts.items_add.Statement.{statement}
 use Rattle.loops.proofs.parts.items_add.Tie as tie
 
 slice-aggregate-total : tie.Need-slice-aggregate-total
-slice-aggregate-total c = sym (length-take-le _ _ (rw (c .before .before .answer .given .1) at (c .before .before .before .before .before .pre)))
+slice-aggregate-total c =
+    let v : tie.After-answer = search in
+    let s : tie.Start = search in
+    sym (length-take-le _ _ (rw (v .answer .given .1) at (s .pre)))
 
 returns : tie.Need-returns
-returns c = rw (c .before .before .before .answer .given .1) (c .total .ensures ∙ ap in64 (sym (zero-add _)))
+returns c = let v : tie.After-answer = search in rw (v .answer .given .1) (c .total .ensures ∙ ap in64 (sym (zero-add _)))
 
 returns-2 : tie.Need-returns-2
-returns-2 c = rw (c .before .before .answer2 .given .1) (omega (arith, c .number .ensures))
+returns-2 c = let v : tie.After-answer2 = search in rw (v .answer2 .given .1) (omega (arith, c .number .ensures))
 
 pub items-add-spec : {M : Type 1} → statement M
 items-add-spec =

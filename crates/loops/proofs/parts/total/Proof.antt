@@ -1,4 +1,4 @@
--- `parts::total` meets its contract: after i turns the sum is that of the first i items. Assumes nothing.
+-- `parts::total` meets its contract: after i turns the sum is that of the first i items.
 use Prim.Native.Nat.{_-_, _≤_}
 use mathlib.Core.Path.{_≡_, ap, _∙_}
 use native.Mathlib.Omega.{arith}
@@ -19,17 +19,19 @@ abbrev μ-loop : tie.MeasureT-loop
 μ-loop items sum₀ i₀ sum i = length items - i
 
 cast-wrapping-add-u64 : tie.Need-cast-wrapping-add-u64 Inv-loop μ-loop
-cast-wrapping-add-u64 c = record { fits = omega (arith, c .shared-slice-known2 .given (c .before .before .loop .i)) }
+cast-wrapping-add-u64 c = let l : tie.At-loop Inv-loop μ-loop = search in record { fits = omega (arith, c .shared-slice-known2 .given (l .loop .i)) }
 
 loop-again : tie.Need-loop-again Inv-loop μ-loop
 loop-again c =
-    let l = c .before .before .before .loop in
-    (omega (arith, c .before .before .loop-test .taken), total-more _ _ _ _ (c .before .before .loop-test .taken) (l .inv .1) (c .wrapping-add-u64 .ensures))
+    let t : tie.In-loop Inv-loop μ-loop = search in
+    let l : tie.At-loop Inv-loop μ-loop = search in
+    (omega (arith, t .loop-test .taken), total-more _ _ _ _ (t .loop-test .taken) (l .loop .inv .1) (c .wrapping-add-u64 .ensures))
 
 returns : tie.Need-returns Inv-loop μ-loop
 returns c =
+    let s : tie.Start Inv-loop μ-loop = search in
     let l = c .before .loop in
-    l .inv .1 ∙ ap (λ xs. in64 (total xs)) (take-all (l .i) (now (c .before .before .before .args .items)) (omega (arith, c .loop-test .left)))
+    l .inv .1 ∙ ap (λ xs. in64 (total xs)) (take-all (l .i) (now (s .args .items)) (omega (arith, c .loop-test .left)))
 
 pub total-spec : {M : Type 1} → statement M
 total-spec =

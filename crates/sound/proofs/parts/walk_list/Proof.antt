@@ -1,5 +1,5 @@
 -- `parts::walk_list` meets its contract. The loop's invariant: `e` stands at some spot, and to walk on from there with the rows that
--- are left gives what the whole walk gives. Assumes nothing.
+-- are left gives what the whole walk gives.
 use Prim.Native.Nat.{_-_, _^_, _≤_, _<_}
 use mathlib.Core.Path.{_≡_, refl, sym, _∙_}
 use native.Mathlib.Omega.{arith}
@@ -22,44 +22,60 @@ abbrev μ-loop : tie.MeasureT-loop
 μ-loop heads links ends m k a read e₀ rows₀ e rows = m - rows
 
 loop-holds : tie.Need-loop-holds Inv-loop μ-loop
-loop-holds c = rw (c .before .index .ensures) (c .before .before .before .before .before .pre .most, c .shared-slice-known4 .given _ .fits, (Head _, refl, refl))
+loop-holds c =
+    let start : tie.Start Inv-loop μ-loop = search in
+    rw (c .before .index .ensures) (start .pre .most, c .shared-slice-known4 .given _ .fits, (Head _, refl, refl))
 
 returns : tie.Need-returns Inv-loop μ-loop
 returns c =
-    let i = c .before .before .loop .inv in
-    let h = no-end (c .before .before .before .before .before .before .before .before .fits .m .fits) (c .before .loop-test .taken) in
+    let at-loop : tie.At-loop Inv-loop μ-loop = search in
+    let start : tie.Start Inv-loop μ-loop = search in
+    let i = at-loop .loop .inv in
+    let h = no-end (start .fits .m .fits) (c .before .loop-test .taken) in
     sym (spent _ _ _ _ _ _ (i .2 .1) _ h (omega arith)) ∙ i .2 .2
 
 returns-2 : tie.Need-returns-2 Inv-loop μ-loop
 returns-2 c =
-    let i = c .before .before .before .before .before .before .loop .inv in
-    let h = no-end (c .before .before .before .before .before .before .before .before .before .before .before .before .fits .m .fits) (c .before .before .before .before .before .loop-test .taken) in
-    sym (strange _ _ _ _ _ _ (i .2 .1) _ h (rw (c .before .before .before .index2 .ensures) at (c .if2 .taken))) ∙ i .2 .2
+    let after-index2 : tie.After-index2 Inv-loop μ-loop = search in
+    let in-loop : tie.In-loop Inv-loop μ-loop = search in
+    let at-loop : tie.At-loop Inv-loop μ-loop = search in
+    let start : tie.Start Inv-loop μ-loop = search in
+    let i = at-loop .loop .inv in
+    let h = no-end (start .fits .m .fits) (in-loop .loop-test .taken) in
+    sym (strange _ _ _ _ _ _ (i .2 .1) _ h (rw (after-index2 .index2 .ensures) at (c .if2 .taken))) ∙ i .2 .2
 
 loop-again : tie.Need-loop-again Inv-loop μ-loop
 loop-again c =
-    let l = c .before .before .before .before .before .before .loop-test .taken in
-    let h = no-end (c .before .before .before .before .before .before .before .before .before .before .before .before .before .fits .m .fits) l in
-    let i = c .before .before .before .before .before .before .before .loop .inv in
-    let q = c .before .before .before .before .index2 .ensures in
+    let after-index2 : tie.After-index2 Inv-loop μ-loop = search in
+    let else1 : tie.Else1 Inv-loop μ-loop = search in
+    let in-loop : tie.In-loop Inv-loop μ-loop = search in
+    let at-loop : tie.At-loop Inv-loop μ-loop = search in
+    let start : tie.Start Inv-loop μ-loop = search in
+    let l = in-loop .loop-test .taken in
+    let h = no-end (start .fits .m .fits) l in
+    let i = at-loop .loop .inv in
+    let q = after-index2 .index2 .ensures in
     rw q (
       omega arith,
       c .shared-slice-known6 .given _ .fits,
       (
         After _,
         refl,
-        sym (further _ _ _ _ _ _ (i .2 .1) h (i .0) (c .before .before .before .before .before .if1 .left) l (rw q at (c .before .if2 .left))) ∙ i .2 .2,
+        sym (further _ _ _ _ _ _ (i .2 .1) h (i .0) (else1 .if1 .left) l (rw q at (c .before .if2 .left))) ∙ i .2 .2,
       ),
     )
 
 returns-3 : tie.Need-returns-3 Inv-loop μ-loop
 returns-3 c =
-    let i = c .before .before .before .loop .inv in
-    sym (past _ _ _ _ _ _ (i .2 .1) _ (c .if3 .taken) (c .before .before .loop-test .left)) ∙ i .2 .2
+    let after-loop : tie.After-loop Inv-loop μ-loop = search in
+    let at-loop : tie.At-loop Inv-loop μ-loop = search in
+    let i = at-loop .loop .inv in
+    sym (past _ _ _ _ _ _ (i .2 .1) _ (c .if3 .taken) (after-loop .loop-test .left)) ∙ i .2 .2
 
 returns-4 : tie.Need-returns-4 Inv-loop μ-loop
 returns-4 c =
-    let i = c .before .before .before .loop .inv in
+    let at-loop : tie.At-loop Inv-loop μ-loop = search in
+    let i = at-loop .loop .inv in
     sym (at-end _ _ _ _ _ _ (i .2 .1) _ (c .if3 .left)) ∙ i .2 .2
 
 pub walk-list-spec : {M : Type 1} → statement M

@@ -1,4 +1,4 @@
--- `parts::vacate_nodes` meets its contract: each column is what `fill` leaves of its part. Assumes nothing.
+-- `parts::vacate_nodes` meets its contract: each column is what `fill` leaves of its part.
 use borrow.Author.Needs.{needs}
 use native.Mathlib.Omega.{arith}
 use Rattle.tables.proofs.Front.{put-filled}
@@ -7,10 +7,13 @@ use Rattle.tables.proofs.parts.vacate_nodes.Tie as tie
 
 returns : tie.Need-returns
 returns c =
-    let p = c .before .before .before .before .before .before .before .before .pre in
+    let h : tie.After-fill = search in
+    let w : tie.After-fill-weights = search in
+    let s : tie.Start = search in
+    let p = s .pre in
     record {
-      weights-are = put-filled _ _ _ _ _ (p .ordered) (p .weights-hold) (c .before .before .before .before .before .fill-weights .ensures);
-      heads-are = put-filled _ _ _ _ _ (omega arith) (p .heads-hold) (c .before .before .fill .ensures);
+      weights-are = put-filled _ _ _ _ _ (p .ordered) (p .weights-hold) (w .fill-weights .ensures);
+      heads-are = put-filled _ _ _ _ _ (omega arith) (p .heads-hold) (h .fill .ensures);
     }
 
 pub vacate-nodes-spec : {M : Type 1} → statement M

@@ -1,47 +1,42 @@
--- `Walker::new` meets its contract: each `return` rewrites with the tests that led there. Assumes nothing.
+-- `Walker::new` meets its contract: `guards` finds each test's fact; past the tests the walker stands at the node's heads.
+use mathlib.Core.Path.{_≡_}
+use native.Mathlib.Omega.{arith}
 use borrow.Author.Needs.{needs}
 use borrow.Author.Tests.{lt-ltb, le-ltb}
-use native.Mathlib.Omega.{arith}
-use Rattle.tables.proofs.Laws.{misfit, fitted, fitting}
-use Rattle.walker.specs.Steps.{begin}
+use denote.Ref.{now}
+use Rattle.tables.specs.Net.{Net, net}
+use Rattle.tables.specs.Answers.{done}
+use Rattle.tables.proofs.Guards.{guards, FitOf}
+use Rattle.tables.proofs.Laws.{fitting}
+use Rattle.walker.specs.Steps.{atHeads, begin}
 use Rattle.walker.proofs.Walker.new.Statement.{statement}
 use Rattle.walker.proofs.Walker.new.Tie as tie
 
-returns : tie.Need-returns
+abbrev lent : tie.Start → Net
+lent s = net (now (s .args .weights)) (now (s .args .heads)) (now (s .args .registers)) (now (s .args .links)) (now (s .args .ends)) (s .args .n) (s .args .m)
+
+-- past the first test, and past the last
+fit : (c : tie.Else1) → FitOf (lent (search))
+fit c = fitting (c .before .fits2 .ensures) (c .if1 .left)
+
+past : (c : tie.After-struct-known) → let s : tie.Start = search in done (atHeads (lent s) (s .args .a .0)) ≡ begin (lent s) (s .args .a .0)
 unfolding begin
-returns c = rw (misfit (c .before .fits2 .ensures) (c .if1 .taken))
-
-shared-slice-read-t16 : tie.Need-shared-slice-read-t16
-shared-slice-read-t16 c =
-    let f = fitting (c .before .before .before .before .before .fits2 .ensures) (c .before .before .before .before .if1 .left) in
-    omega arith
-
-shared-slice-read-t21 : tie.Need-shared-slice-read-t21
-shared-slice-read-t21 c =
-    let f = fitting (c .before .before .before .before .before .before .fits2 .ensures) (c .before .before .before .before .before .if1 .left) in
-    omega arith
-
-returns-2 : tie.Need-returns-2
-unfolding begin
-returns-2 c = rw (fitted (c .before .before .before .before .before .before .fits2 .ensures) (c .before .before .before .before .before .if1 .left), lt-ltb _ _ (c .before .before .before .if2 .taken), ← c .before .before .index .ensures)
-
-returns-3 : tie.Need-returns-3
-unfolding begin
-returns-3 c = rw (fitted (c .before .before .before .fits2 .ensures) (c .before .before .if1 .left), le-ltb _ _ (c .if2 .left))
+past c = search guards depth 9
 
 pub new-spec : {M : Type 1} → statement M
+unfolding begin
 new-spec =
     tie.close
     (tie.spec
     (λ c κs. search needs)
-    returns
+    (λ c. search guards depth 9)
     (λ c κs. search needs)
     (λ c. search needs)
     (λ c. search needs)
     (λ c. search needs)
-    shared-slice-read-t16
+    (λ c. let f = fit (search) in omega arith)
     (λ c. search needs)
     (λ c. search needs)
-    shared-slice-read-t21
-    returns-2
-    returns-3)
+    (λ c. let f = fit (search) in omega arith)
+    (λ c. let i : tie.After-index = search in let t : tie.Then2 = search in rw (← past (search), lt-ltb _ _ (t .if2 .taken), ← i .index .ensures))
+    (λ c. rw (← past (search), le-ltb _ _ (c .if2 .left))))

@@ -1,5 +1,5 @@
 -- `parts::sum` meets its contract: what it has summed are the weights of those far ends that the walk takes of the rows met so far.
--- A row adds at most 2^31 to the size of the sum, so that it stays within 64 bits. Assumes nothing.
+-- A row adds at most 2^31 to the size of the sum, so that it stays within 64 bits.
 use Prim.Native.Nat.{ℕ, _-_}
 use mathlib.Core.Path.{sym, _∙_}
 use mathlib.Core.Logic.{⊎-elim}
@@ -27,41 +27,61 @@ abbrev μ-loop : tie.MeasureT-loop
 μ-loop weights links ends n m k pick link before far e₀ rows₀ total₀ e rows total = m - rows
 
 loop-holds : tie.Need-loop-holds Inv-loop μ-loop
-loop-holds c = ([], begins _ _ _ (c .before .before .fits .link .fits), sum-begins _ _ _ _ _)
+loop-holds c =
+    let start : tie.Start Inv-loop μ-loop = search in
+    ([], begins _ _ _ (start .fits .link .fits), sum-begins _ _ _ _ _)
 
 returns : tie.Need-returns Inv-loop μ-loop
 returns c =
-    let i = c .before .before .loop .inv in
-    tallies-endless (toZ-ofZ (c .before .before .before .before .before .fits .before)) (i .1) (i .2) (c .before .loop-test .taken) (c .if1 .taken)
+    let at-loop : tie.At-loop Inv-loop μ-loop = search in
+    let start : tie.Start Inv-loop μ-loop = search in
+    let i = at-loop .loop .inv in
+    tallies-endless (toZ-ofZ (start .fits .before)) (i .1) (i .2) (c .before .loop-test .taken) (c .if1 .taken)
 
 returns-2 : tie.Need-returns-2 Inv-loop μ-loop
 returns-2 c =
-    let i = c .before .before .before .before .before .before .before .before .loop .inv in
-    let t = rw (c .before .before .before .before .before .index .ensures) at (sym (c .before .before .before .picks .ensures) ∙ c .before .before .if2 .taken) in
-    let l = rw (c .before .before .before .before .before .index .ensures) at (c .if3 .taken) in
-    tallies-missing (toZ-ofZ (c .before .before .before .before .before .before .before .before .before .before .before .fits .before)) (i .1) (i .2) (c .before .before .before .before .before .before .before .loop-test .taken) (c .before .before .before .before .before .before .if1 .left) t l
+    let then2 : tie.Then2 Inv-loop μ-loop = search in
+    let after-picks : tie.After-picks Inv-loop μ-loop = search in
+    let after-index : tie.After-index Inv-loop μ-loop = search in
+    let else1 : tie.Else1 Inv-loop μ-loop = search in
+    let in-loop : tie.In-loop Inv-loop μ-loop = search in
+    let at-loop : tie.At-loop Inv-loop μ-loop = search in
+    let start : tie.Start Inv-loop μ-loop = search in
+    let i = at-loop .loop .inv in
+    let t = rw (after-index .index .ensures) at (sym (after-picks .picks .ensures) ∙ then2 .if2 .taken) in
+    let l = rw (after-index .index .ensures) at (c .if3 .taken) in
+    tallies-missing (toZ-ofZ (start .fits .before)) (i .1) (i .2) (in-loop .loop-test .taken) (else1 .if1 .left) t l
 
 cast-total : tie.Need-cast-total Inv-loop μ-loop
 cast-total c = rw (toZ-ofZ {w = w32} (record { sfits = c .total .given })) (record { sfits = omega (arith, c .total .given) })
 
 add-total : tie.Need-add-total Inv-loop μ-loop
 add-total c =
-    let l = c .before .before .before .before .before .before .before .before .before .before .loop in
+    let else1 : tie.Else1 Inv-loop μ-loop = search in
+    let at-loop : tie.At-loop Inv-loop μ-loop = search in
+    let start : tie.Start Inv-loop μ-loop = search in
+    let l = at-loop .loop in
     let i = l .inv in
     let z = toZ w64 (l .total) in
-    more-fits z (getD (now (c .before .before .before .before .before .before .before .before .before .before .before .before .before .args .weights)) (c .before .index2 .result) (pos 0))
-    (room-left z (toZ-ofZ (c .before .before .before .before .before .before .before .before .before .before .before .before .before .fits .before)) (i .2 .small) (i .1 .most) (c .before .before .before .before .before .before .before .before .if1 .left) (c .before .before .before .before .before .before .before .before .before .before .before .before .before .pre .room)) (c .total .given)
+    more-fits z (getD (now (start .args .weights)) (c .before .index2 .result) (pos 0))
+    (room-left z (toZ-ofZ (start .fits .before)) (i .2 .small) (i .1 .most) (else1 .if1 .left) (start .pre .room)) (c .total .given)
 
 loop-again : tie.Need-loop-again Inv-loop μ-loop
 loop-again c =
-    let l = c .before .before .before .before .before .before .before .loop in
+    let after-picks : tie.After-picks Inv-loop μ-loop = search in
+    let after-index : tie.After-index Inv-loop μ-loop = search in
+    let else1 : tie.Else1 Inv-loop μ-loop = search in
+    let in-loop : tie.In-loop Inv-loop μ-loop = search in
+    let at-loop : tie.At-loop Inv-loop μ-loop = search in
+    let start : tie.Start Inv-loop μ-loop = search in
+    let l = at-loop .loop in
     let i = l .inv in
-    let q = c .before .before .before .before .index .ensures in
-    let p = sym (c .before .before .picks .ensures) in
-    let room = room-left (toZ w64 (l .total)) (toZ-ofZ (c .before .before .before .before .before .before .before .before .before .before .fits .before)) (i .2 .small) (i .1 .most) (c .before .before .before .before .before .if1 .left) (c .before .before .before .before .before .before .before .before .before .before .pre .room) in
+    let q = after-index .index .ensures in
+    let p = sym (after-picks .picks .ensures) in
+    let room = room-left (toZ w64 (l .total)) (toZ-ofZ (start .fits .before)) (i .2 .small) (i .1 .most) (else1 .if1 .left) (start .pre .room) in
     rw q (
       i .0 ++ (l .e ∷ []),
-      onward (i .1) (c .before .before .before .before .before .before .loop-test .taken) (c .before .before .before .before .before .if1 .left) (c .shared-slice-known4 .given _ .fits),
+      onward (i .1) (in-loop .loop-test .taken) (else1 .if1 .left) (c .shared-slice-known4 .given _ .fits),
       ⊎-elim
           (λ w. sum-turns _ _ _ _ _ (l .e) (i .2) (rw q at (p ∙ w .0 .taken)) (rw q at (w .3 .ensures)) (rw q at (w .2 .left)) (w .4 .given) room (w .5))
           (λ w. rw (w .1) (sum-leaves _ _ _ _ _ (l .e) (i .2) (rw q at (p ∙ w .0 .left))))
@@ -70,8 +90,9 @@ loop-again c =
 
 returns-3 : tie.Need-returns-3 Inv-loop μ-loop
 returns-3 c =
+    let start : tie.Start Inv-loop μ-loop = search in
     let i = c .before .loop .inv in
-    tallies-total (toZ-ofZ (c .before .before .before .before .fits .before)) (i .1) (i .2) (c .loop-test .left)
+    tallies-total (toZ-ofZ (start .fits .before)) (i .1) (i .2) (c .loop-test .left)
 
 pub sum-spec : {M : Type 1} → statement M
 sum-spec =
