@@ -15,6 +15,7 @@ use Rattle.lists.specs.declared.Item.{Item}
 use Rattle.lists.specs.declared.Item.the-variants.{Number, Near, Far}
 use Rattle.lists.specs.declared.Extent.{Extent}
 use Rattle.lists.specs.declared.Extent.the-variants as Extent·
+use Rattle.lists.specs.declared.Counted.{Counted}
 use Rattle.lists.specs.declared.Counted.the-variants as Counted·
 use Rattle.lists.specs.Walk.{cell, picked, rowsFrom, stopFrom, itemOf}
 use Rattle.lists.specs.Parts.{extentOf, countOf, written}
@@ -25,15 +26,21 @@ use Rattle.legs.specs.declared.parts.Prepared.{Prepared}
 use Rattle.legs.specs.declared.parts.Prepared.the-variants as Prepared·
 use Rattle.legs.specs.Legs.{legTakes, legGives, legsGive, legEnds, legsTold, prepared, least, Tables3, tables3, roomFor, edgesTold}
 
--- what counting a leg says of it
-module _ (links ends : List ℕ) (m : ℕ) (leg : Leg) where
-  pub leg-broken : countOf (rowsFrom links m (leg .k) (leg .link)) (legTakes links ends m leg) m (stopFrom links m (leg .k) (leg .link)) ≡ Counted·.Broken
-      → ltb (stopFrom links m (leg .k) (leg .link)) m ≡ true
-  leg-broken = count-broken (rowsFrom links m (leg .k) (leg .link)) (legTakes links ends m leg) m (stopFrom links m (leg .k) (leg .link))
+-- a list that ends, with so many rows, of which a leg takes so many
+abbrev pub Counts : List ℕ → List ℕ → ℕ → Leg → (rows items : ℕ) → Type 0
+Counts links ends m leg rows items =
+    (ltb (stopFrom links m (leg .k) (leg .link)) m ≡ false) × (length (rowsFrom links m (leg .k) (leg .link)) ≡ rows) × (length (legTakes links ends m leg) ≡ items)
 
-  pub leg-counted : {r t : ℕ} → countOf (rowsFrom links m (leg .k) (leg .link)) (legTakes links ends m leg) m (stopFrom links m (leg .k) (leg .link)) ≡ Counted·.Rows r t
-      → (ltb (stopFrom links m (leg .k) (leg .link)) m ≡ false) × (length (rowsFrom links m (leg .k) (leg .link)) ≡ r) × (length (legTakes links ends m leg) ≡ t)
-  leg-counted = count-rows (rowsFrom links m (leg .k) (leg .link)) (legTakes links ends m leg) m (stopFrom links m (leg .k) (leg .link))
+-- what counting a leg says of it
+abbrev countAt : List ℕ → List ℕ → ℕ → Leg → Counted
+countAt links ends m leg = countOf (rowsFrom links m (leg .k) (leg .link)) (legTakes links ends m leg) m (stopFrom links m (leg .k) (leg .link))
+
+module _ (links ends : List ℕ) (m : ℕ) (leg : Leg) where
+  pub leg-broken : countAt links ends m leg ≡ Counted·.Broken → ltb (stopFrom links m (leg .k) (leg .link)) m ≡ true
+  leg-broken = count-broken _ _ _ _
+
+  pub leg-counted : {rows items : ℕ} → countAt links ends m leg ≡ Counted·.Rows rows items → Counts links ends m leg rows items
+  leg-counted = count-rows _ _ _ _
 
   -- a leg takes no more items than its list has rows, and there are at most m
   pub items-few : length (legTakes links ends m leg) ≤ length (rowsFrom links m (leg .k) (leg .link))
@@ -48,6 +55,7 @@ pub record Both (links : List ℕ) (m : ℕ) (first second : Leg) (rows others :
   pub first-rows : length (rowsFrom links m (first .k) (first .link)) ≡ rows
   pub second-rows : length (rowsFrom links m (second .k) (second .link)) ≡ others
 
+-- how far a leg's list goes, and what it says of the legs
 abbrev extentAt : List ℕ → ℕ → Leg → Extent
 extentAt links m leg = extentOf (rowsFrom links m (leg .k) (leg .link)) m (stopFrom links m (leg .k) (leg .link))
 
@@ -123,6 +131,7 @@ both-written xs ys items l part {mid} {more} p q =
     let v : part ≡ onto ys (take (length l - mid) (drop mid l)) = ap (λ o. o .after) q in
     rw (v, u, b, a, joined xs ys items, length-append xs ys)
 
+-- a leg gives an item for each row that it takes
 pub gives-length : (registers links ends : List ℕ) (m : ℕ) (item : Item) (leg : Leg) → length (legGives registers links ends m item leg) ≡ length (legTakes links ends m leg)
 gives-length registers links ends m item leg = length-map (legTakes links ends m leg) (itemOf registers ends item (leg .k))
 
@@ -135,6 +144,7 @@ pub written-long : (xs items l : List ℕ) {r : ℕ} → out (done r) l ≡ writ
 unfolding written
 written-long xs items l p h = ap (λ o. length (o .after)) p ∙ length-append xs (drop (length xs) items) ∙ omega (arith, length-drop (length xs) items)
 
+-- the part behind them has room for the others
 pub room-behind : (l : List ℕ) (mid n : ℕ) → mid + n ≤ length l → n ≤ length (take (length l - mid) (drop mid l))
 room-behind l mid n h = rw (mid-len mid (length l) l (omega arith)) (omega arith)
 
@@ -180,7 +190,7 @@ legs-by registers links ends m item first second table =
     by-tests links ends m first second (length table) given table
     ∙ ap (λ n. tests links m first second (leb n (length table)) given table) (sym (items-length registers links ends m item first second))
 
--- the same for three tables: there is room where the shortest has it
+-- three tables have room where the shortest has it
 leb-least : (n a b : ℕ) → leb n (least a b) ≡ (leb n a && leb n b)
 unfolding least
 leb-least n a b = go (ltb b a) refl (leb n a) refl (leb n b) refl

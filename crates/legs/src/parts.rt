@@ -44,7 +44,7 @@ pub enum Settled {
     Broken,
 }
 
-// Goes along both lists, so that each is known to end before anything is written.
+// Goes along both lists and counts what the legs take of them.
 pub fn settle(links: &[u32], ends: &[u32], m: u32, first: Leg, second: Leg) -> Settled
     requires { ⌜ Legs m (length (now links)) (length (now ends)) m first second ⌝ }
     ensures { λ r. ⌜ r ≡ settled (now (links .entry)) (now (ends .entry)) m first second ⌝ }
