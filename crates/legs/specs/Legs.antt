@@ -1,7 +1,7 @@
 -- A leg of a walk: one direction from a link on, and which rows it takes.
 use Prim.Native.Nat.{ℕ, _+_, _*_, _<_, _≤_}
 use mathlib.Core.Path.{_≡_}
-use mathlib.Core.Bool.{Bool, not, _&&_}
+use mathlib.Core.Bool.{Bool, cond, not, _&&_}
 use mathlib.Core.List.{List, _++_, map}
 use lib.Dec.{ltb, leb}
 use lib.ListN.{length, getD}
@@ -16,6 +16,8 @@ use Rattle.legs.specs.declared.parts.Leg.{Leg}
 use Rattle.legs.specs.declared.parts.Settled.{Settled}
 use Rattle.legs.specs.declared.parts.Settled.the-variants.{Rows}
 use Rattle.legs.specs.declared.parts.Settled.the-variants as Settled·
+use Rattle.legs.specs.declared.parts.Prepared.{Prepared}
+use Rattle.legs.specs.declared.parts.Prepared.the-variants as Prepared·
 
 -- the leg from the head of node a's list in direction k
 abbrev pub legAt : List ℕ → ℕ → Pick → ℕ → Leg
@@ -40,6 +42,17 @@ settled links ends m first second =
     (length (legTakes links ends m first))
     (length (rowsFrom links m (second .k) (second .link)))
     (length (legTakes links ends m first) + length (legTakes links ends m second)))
+
+-- two legs before anything is written: whether both lists end and the items fit a table of `room` cells; then the rows of the first and of the second
+unfoldable pub prepared : List ℕ → List ℕ → ℕ → Leg → Leg → ℕ → Prepared
+prepared links ends m first second room =
+    unless (legEnds links m first && legEnds links m second) Prepared·.Broken
+    (unless (leb (length (legTakes links ends m first) + length (legTakes links ends m second)) room) Prepared·.Short
+    (Prepared·.Rows (length (rowsFrom links m (first .k) (first .link))) (length (rowsFrom links m (second .k) (second .link)))))
+
+-- the lesser of two numbers
+unfoldable pub least : ℕ → ℕ → ℕ
+least a b = cond (ltb b a) b a
 
 -- what both give, one after the other, into an output table: 6 where either list is broken, before 7
 abbrev pub legsGive : List ℕ → List ℕ → List ℕ → ℕ → Item → Leg → Leg → List ℕ
@@ -83,11 +96,9 @@ pub record Legs (registers links ends m : ℕ) (first second : Leg) : Type 0 whe
   pub first-way : first .k < 2
   pub second-way : second .k < 2
 
--- the legs have been settled, and the table holds what they give
-pub record Ready (registers links ends : List ℕ) (m : ℕ) (first : Leg) (rows mid : ℕ) (second : Leg) (others end items : ℕ) : Type 0 where
+-- the lists have so many rows, and the table holds what the legs give
+pub record Ready (registers links ends : List ℕ) (m : ℕ) (first : Leg) (rows : ℕ) (second : Leg) (others items : ℕ) : Type 0 where
   pub legs : Legs (length registers) (length links) (length ends) m first second
   pub first-rows : length (rowsFrom links m (first .k) (first .link)) ≡ rows
-  pub first-items : length (legTakes links ends m first) ≡ mid
   pub second-rows : length (rowsFrom links m (second .k) (second .link)) ≡ others
-  pub all-items : mid + length (legTakes links ends m second) ≡ end
-  pub room : end ≤ items
+  pub room : length (legTakes links ends m first) + length (legTakes links ends m second) ≤ items

@@ -1,2 +1,2 @@
-// A walk as two legs, one after the other: both are counted before anything is written. The module `parts` has a leg, and what two of them give.
+// A walk as two legs, one after the other: both lists are gone along before anything is written. The module `parts` has a leg, and what two of them give.
 pub mod parts;

@@ -3,14 +3,18 @@ ghost use mathlib.Core.Path.{_≡_};
 ghost use Prim.Native.Nat.{_<_};
 ghost use lib.ListN.{length};
 ghost use Rattle.tables.specs.Net.{nodeCell};
-ghost use Rattle.tables.specs.Answers.{out, toldItems, onto};
-ghost use Rattle.legs.specs.Legs.{legAt, legsGive, legsTold, edgesTold, tables3, settled, Legs, Ready};
+ghost use Rattle.tables.specs.Answers.{out, done, toldItems};
+ghost use Rattle.lists.specs.Parts.{written};
+ghost use Rattle.legs.specs.Legs.{legAt, legsGive, legsTold, edgesTold, tables3, settled, prepared, least, Legs, Ready};
 use index::NodeIndex;
 use index::Refusal;
 use lists::Counted;
+use lists::Extent;
 use lists::Item;
 use lists::Pick;
 use lists::parts::count;
+use lists::parts::count_rows;
+use lists::parts::count_taken;
 use lists::parts::give;
 use tables::Items;
 use tables::parts::NODE_CELLS;
@@ -40,7 +44,7 @@ pub enum Settled {
     Broken,
 }
 
-// Goes along both lists, so that each is known to end before anything is written.
+// Goes along both lists and counts what the legs take of them.
 pub fn settle(links: &[u32], ends: &[u32], m: u32, first: Leg, second: Leg) -> Settled
     requires { ⌜ Legs m (length (now links)) (length (now ends)) m first second ⌝ }
     ensures { λ r. ⌜ r ≡ settled (now (links .entry)) (now (ends .entry)) m first second ⌝ }
@@ -58,7 +62,41 @@ pub fn settle(links: &[u32], ends: &[u32], m: u32, first: Leg, second: Leg) -> S
     Settled::Rows(rows, mid, others, mid + more)
 }
 
-// The items of two settled legs, to the front of a table that has room for them.
+// Two legs before anything is written: the rows of the first, the rows of the second.
+pub enum Prepared {
+    Rows(u32, u32),
+    Broken,
+    Short,
+}
+
+// Goes along both lists: each must end, and a table of `room` cells must hold what the legs give.
+fn prepare(links: &[u32], ends: &[u32], m: u32, first: Leg, second: Leg, room: usize) -> Prepared
+    requires { ⌜ Legs m (length (now links)) (length (now ends)) m first second ⌝ }
+    ensures { λ r. ⌜ r ≡ prepared (now (links .entry)) (now (ends .entry)) m first second room ⌝ }
+{
+    let extent = count_rows(links, m, first.k, first.link);
+    let Extent::Rows(rows) = extent else {
+        return Prepared::Broken;
+    };
+    let extent = count_rows(links, m, second.k, second.link);
+    let Extent::Rows(others) = extent else {
+        return Prepared::Broken;
+    };
+    // There are no more items than rows, so they are counted for a shorter table alone.
+    if rows as usize + others as usize <= room {
+        return Prepared::Rows(rows, others);
+    }
+    let pick = first.pick;
+    let mid = count_taken(links, ends, m, first.k, pick, first.link, rows);
+    let pick = second.pick;
+    let more = count_taken(links, ends, m, second.k, pick, second.link, others);
+    if room < mid as usize + more as usize {
+        return Prepared::Short;
+    }
+    Prepared::Rows(rows, others)
+}
+
+// The items of two legs whose rows are known, to the front of a table that has room for them; tells how many they are.
 pub fn give_both(
     registers: &[u32],
     links: &[u32],
@@ -67,18 +105,16 @@ pub fn give_both(
     item: Item,
     first: Leg,
     rows: u32,
-    mid: usize,
     second: Leg,
     others: u32,
-    end: usize,
     items: &mut [u32],
-)
-    requires { ⌜ Ready (now registers) (now links) (now ends) m first rows mid second others end (length (now items)) ⌝ }
-    ensures { λ r. ⌜ now (items .exit)
-        ≡ onto (legsGive (now (registers .entry)) (now (links .entry)) (now (ends .entry)) m item first second) (now (items .entry)) ⌝ }
+) -> usize
+    requires { ⌜ Ready (now registers) (now links) (now ends) m first rows second others (length (now items)) ⌝ }
+    ensures { λ r. ⌜ out (done r) (now (items .exit))
+        ≡ written (legsGive (now (registers .entry)) (now (links .entry)) (now (ends .entry)) m item first second) (now (items .entry)) ⌝ }
 {
     let pick = first.pick;
-    give(
+    let mid = give(
         registers,
         links,
         ends,
@@ -88,10 +124,10 @@ pub fn give_both(
         item,
         first.link,
         rows,
-        &mut items[..mid],
+        items,
     );
     let pick = second.pick;
-    give(
+    let more = give(
         registers,
         links,
         ends,
@@ -101,8 +137,9 @@ pub fn give_both(
         item,
         second.link,
         others,
-        &mut items[mid..end],
+        &mut items[mid..],
     );
+    mid + more
 }
 
 // Two legs of a walk into one output table.
@@ -120,28 +157,36 @@ pub fn walk(
     ensures { λ r. ⌜ out (toldItems r) (now (items .exit))
         ≡ legsTold (now (registers .entry)) (now (links .entry)) (now (ends .entry)) m item first second (now (items .entry)) ⌝ }
 {
-    let both = settle(links, ends, m, first, second);
-    let Settled::Rows(rows, mid, others, end) = both else {
-        return Items::Refused(Refusal::Broken); // before 7
-    };
-    if items.len() < end as usize {
-        return Items::Refused(Refusal::Short);
+    let both = prepare(links, ends, m, first, second, items.len());
+    match both {
+        Prepared::Broken => Items::Refused(Refusal::Broken), // before 7
+        Prepared::Short => Items::Refused(Refusal::Short),
+        Prepared::Rows(rows, others) => {
+            let count = give_both(
+                registers,
+                links,
+                ends,
+                m,
+                item,
+                first,
+                rows,
+                second,
+                others,
+                items,
+            );
+            Items::Count(count as u32)
+        }
     }
-    give_both(
-        registers,
-        links,
-        ends,
-        m,
-        item,
-        first,
-        rows,
-        mid as usize,
-        second,
-        others,
-        end as usize,
-        items,
-    );
-    Items::Count(end)
+}
+
+// The lesser of two lengths.
+fn least(a: usize, b: usize) -> usize
+    ensures { λ r. ⌜ r ≡ least a b ⌝ }
+{
+    if b < a {
+        return b;
+    }
+    a
 }
 
 // Two legs into three output tables: number, near end and far end of each row.
@@ -161,62 +206,49 @@ pub fn walk_edges(
         ≡ edgesTold (now (registers .entry)) (now (links .entry)) (now (ends .entry)) m first second
         (tables3 (now (numbers .entry)) (now (sources .entry)) (now (targets .entry))) ⌝ }
 {
-    let both = settle(links, ends, m, first, second);
-    let Settled::Rows(rows, mid, others, end) = both else {
-        return Items::Refused(Refusal::Broken);
-    };
-    let all = end as usize;
-    if numbers.len() < all {
-        return Items::Refused(Refusal::Short);
+    let room = least(numbers.len(), least(sources.len(), targets.len()));
+    let both = prepare(links, ends, m, first, second, room);
+    match both {
+        Prepared::Broken => Items::Refused(Refusal::Broken),
+        Prepared::Short => Items::Refused(Refusal::Short),
+        Prepared::Rows(rows, others) => {
+            give_both(
+                registers,
+                links,
+                ends,
+                m,
+                Item::Number,
+                first,
+                rows,
+                second,
+                others,
+                numbers,
+            );
+            give_both(
+                registers,
+                links,
+                ends,
+                m,
+                Item::Near,
+                first,
+                rows,
+                second,
+                others,
+                sources,
+            );
+            let count = give_both(
+                registers,
+                links,
+                ends,
+                m,
+                Item::Far,
+                first,
+                rows,
+                second,
+                others,
+                targets,
+            );
+            Items::Count(count as u32)
+        }
     }
-    if sources.len() < all {
-        return Items::Refused(Refusal::Short);
-    }
-    if targets.len() < all {
-        return Items::Refused(Refusal::Short);
-    }
-    let mid = mid as usize;
-    give_both(
-        registers,
-        links,
-        ends,
-        m,
-        Item::Number,
-        first,
-        rows,
-        mid,
-        second,
-        others,
-        all,
-        numbers,
-    );
-    give_both(
-        registers,
-        links,
-        ends,
-        m,
-        Item::Near,
-        first,
-        rows,
-        mid,
-        second,
-        others,
-        all,
-        sources,
-    );
-    give_both(
-        registers,
-        links,
-        ends,
-        m,
-        Item::Far,
-        first,
-        rows,
-        mid,
-        second,
-        others,
-        all,
-        targets,
-    );
-    Items::Count(end)
 }

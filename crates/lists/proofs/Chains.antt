@@ -1,4 +1,4 @@
--- A chain is unique, holds no row twice, and is what a walk meets; such a walk is never broken. Assumes nothing.
+-- A chain is unique, holds no row twice, and is what a walk meets; such a walk is never broken.
 use Prim.{Unit, tt}
 use Prim.Native.Nat.{ℕ, zero, suc, _≤_, _<_}
 use mathlib.Core.Path.{_≡_, refl, sym, ap}

@@ -1,4 +1,4 @@
--- The first row that a walk takes, told from how the loop that looks for it ends. Assumes nothing.
+-- The first row that a walk takes, told from how the loop that looks for it ends.
 use Prim.Native.Nat.{ℕ, _+_, _-_, _≤_, _<_}
 use mathlib.Core.Path.{_≡_, ap, _∙_}
 use mathlib.Core.Bool.{Bool, true}

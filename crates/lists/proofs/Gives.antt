@@ -1,4 +1,4 @@
--- A loop that writes the items of a list to a table of their number, front to back. Assumes nothing.
+-- A loop over a known number of rows; and one that writes the items of a list to a table that has room for them, front to back.
 use Prim.Native.Nat.{ℕ, zero, suc, _+_, _-_, _≤_, _<_}
 use mathlib.Core.Path.{_≡_, refl, sym, ap, _∙_}
 use mathlib.Core.Bool.{Bool, true, false, cond}
@@ -7,9 +7,11 @@ use native.Mathlib.Nat.{lt-of-not-le}
 use native.Mathlib.Omega.{arith}
 use lib.Dec.{ltb}
 use lib.ListN.{length, getD, set, length-append, length-map, length-set}
-use lib.Seq.{getD-at}
-use Rattle.tables.proofs.Front.{front, front-more, front-all}
+use lib.Seq.{getD-at, take-all}
+use Rattle.tables.specs.Answers.{out, done}
+use Rattle.tables.proofs.Front.{front, front-more}
 use Rattle.lists.specs.Walk.{walk, filter}
+use Rattle.lists.specs.Parts.{written}
 use Rattle.lists.proofs.Walks.{Along, rest, all-met, filter-append}
 use Rattle.lists.proofs.Counts.{count-takes, count-leaves}
 
@@ -35,6 +37,16 @@ module _ {next : ℕ → ℕ} {m first : ℕ} {met : List ℕ} {e rows : ℕ} (a
   pub below : e < m
   below = lt-of-not-le (λ h. omega (arith, ap length (all-met a h), a .many))
 
+-- and after so many it has met them all
+pub met-all : {next : ℕ → ℕ} {m first : ℕ} {met : List ℕ} {e rows : ℕ} → Along next m first met e rows → length (walk next m m first) ≡ rows → walk next m m first ≡ met
+met-all {next} {m} {first} {met} {e} {rows} a h =
+    let r = walk next m (m - rows) e in
+    a .whole ∙ ap (λ l. met ++ l) (no-more r (omega (arith, ap length (a .whole), length-append met r, a .many))) ∙ append-nil met
+
+pub taken-counted : {next : ℕ → ℕ} {m first : ℕ} {met : List ℕ} {e rows taken : ℕ} (p : ℕ → Bool) → Along next m first met e rows → length (filter p met) ≡ taken
+    → length (walk next m m first) ≡ rows → taken ≡ length (filter p (walk next m m first))
+taken-counted p a n h = sym n ∙ sym (ap (λ l. length (filter p l)) (met-all a h))
+
 -- the items written so far
 pub record Giving (whole : List ℕ) (table : List ℕ) (taken : List ℕ) (items : List ℕ) (at : ℕ) : Type 0 where
   pub many : length taken ≡ at
@@ -42,7 +54,7 @@ pub record Giving (whole : List ℕ) (table : List ℕ) (taken : List ℕ) (item
   pub so-far : items ≡ front whole table at
 
 module _ {next : ℕ → ℕ} {m first : ℕ} {met : List ℕ} {e rows : ℕ} (p : ℕ → Bool) (f : ℕ → ℕ) (a : Along next m first met e rows)
-    {table items : List ℕ} {at : ℕ} (s : length (filter p (walk next m m first)) ≡ length table)
+    {table items : List ℕ} {at : ℕ} (s : length (filter p (walk next m m first)) ≤ length table)
     (g : Giving (map f (filter p (walk next m m first))) table (filter p met) items at) where
   module _ (h : e < m) (n : rows ≡ m → ⊥) (t : p e ≡ true) where
     seam : map f (filter p (walk next m m first)) ≡ map f (filter p met) ++ (f e ∷ map f (filter p (walk next m (m - (rows + 1)) (next e))))
@@ -70,9 +82,9 @@ module _ {next : ℕ → ℕ} {m first : ℕ} {met : List ℕ} {e rows : ℕ} (p
   pub passes-row : p e ≡ false → Giving (map f (filter p (walk next m m first))) table (filter p (met ++ (e ∷ []))) items at
   passes-row t = record { many = count-leaves p met e (g .many) t; long = g .long; so-far = g .so-far }
 
-  pub given : length (walk next m m first) ≡ rows → items ≡ map f (filter p (walk next m m first))
+  pub given : length (walk next m m first) ≡ rows → out (done at) items ≡ written (map f (filter p (walk next m m first))) table
+  unfolding written
   given h =
-      let r = walk next m (m - rows) e in
-      let w : walk next m m first ≡ met = a .whole ∙ ap (λ l. met ++ l) (no-more r (omega (arith, ap length (a .whole), length-append met r, a .many))) ∙ append-nil met in
-      let l = length-map (filter p (walk next m m first)) f ∙ s in
-      g .so-far ∙ front-all (map f (filter p (walk next m m first))) table at l (sym (g .many) ∙ sym (ap (λ x. length (filter p x)) w) ∙ s)
+      let w = map f (filter p (walk next m m first)) in
+      let n : length w ≡ at = length-map (filter p (walk next m m first)) f ∙ ap (λ x. length (filter p x)) (met-all a h) ∙ g .many in
+      rw (g .so-far, n, take-all at w (omega arith))

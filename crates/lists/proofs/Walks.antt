@@ -1,4 +1,4 @@
--- One more row of a walk, and its end. Assumes nothing.
+-- One more row of a walk, and its end.
 use Prim.Native.Nat.{ℕ, zero, suc, _+_, _-_, _^_, _≤_, _<_}
 use mathlib.Core.Path.{_≡_, refl, sym, ap, _∙_}
 use mathlib.Core.Bool.{Bool, true, false, cond}

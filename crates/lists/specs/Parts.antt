@@ -6,9 +6,12 @@ use mathlib.Core.List.{List, [], _∷_}
 use lib.Dec.{ltb}
 use lib.ListN.{length}
 use Rattle.tables.specs.Net.{edgeCells, edgeCell}
+use Rattle.tables.specs.Answers.{Out, out, done, onto}
 use Rattle.lists.specs.declared.Pick.{Pick}
 use Rattle.lists.specs.declared.Found.{Found}
 use Rattle.lists.specs.declared.Found.the-variants as Found·
+use Rattle.lists.specs.declared.Extent.{Extent}
+use Rattle.lists.specs.declared.Extent.the-variants as Extent·
 use Rattle.lists.specs.declared.Counted.{Counted}
 use Rattle.lists.specs.declared.Counted.the-variants as Counted·
 use Rattle.lists.specs.Walk.{rowsFrom, takenFrom}
@@ -18,9 +21,22 @@ abbrev pub firstOf : List ℕ → (m s : ℕ) → Found
 firstOf (e ∷ es) m s = Found·.At (record { 0 = e })
 firstOf [] m s = cond (ltb s m) Found·.Broken (Found·.End (record { 0 = s }))
 
+-- how many rows a list has, unless it is broken
+unfoldable pub extentOf : List ℕ → (m s : ℕ) → Extent
+extentOf rows m s = cond (ltb s m) Extent·.Broken (Extent·.Rows (length rows))
+
 -- how many rows a list has, and how many of them a walk takes, unless it is broken
-abbrev pub countOf : List ℕ → List ℕ → (m s : ℕ) → Counted
+unfoldable pub countOf : List ℕ → List ℕ → (m s : ℕ) → Counted
 countOf rows taken m s = cond (ltb s m) Counted·.Broken (Counted·.Rows (length rows) (length taken))
+
+-- items at the front of a table that has room for them, and their number
+unfoldable pub written : List ℕ → List ℕ → Out ℕ (List ℕ)
+written items table = out (done (length items)) (onto items table)
+
+-- the links of m edges are there, and k is a direction
+pub record Links (links m k : ℕ) : Type 0 where
+  pub links-hold : edgeCells * m ≤ links
+  pub direction : k < 2
 
 -- the columns hold the cells of m edges, and k is a direction
 pub record Edges (links ends m k : ℕ) : Type 0 where
@@ -34,9 +50,13 @@ pub record HasRow (registers ends k e : ℕ) : Type 0 where
   pub ends-hold : edgeCell e 1 < ends
   pub direction : k < 2
 
--- the columns hold m edges, the list from `link` on has `rows` rows, and the table is as long as what the walk takes of it
-pub record Gives (registers links ends : List ℕ) (m k : ℕ) (pick : Pick) (link rows items : ℕ) : Type 0 where
+-- the columns hold m edges, and the list from `link` on has `rows` rows
+pub record Known (links ends : List ℕ) (m k link rows : ℕ) : Type 0 where
   pub edges : Edges (length links) (length ends) m k
-  pub registers-hold : m ≤ length registers
   pub all-rows : length (rowsFrom links m k link) ≡ rows
-  pub all-taken : length (takenFrom links ends m k pick link) ≡ items
+
+-- and the table has room for what the walk takes of it
+pub record Gives (registers links ends : List ℕ) (m k : ℕ) (pick : Pick) (link rows items : ℕ) : Type 0 where
+  pub known : Known links ends m k link rows
+  pub registers-hold : m ≤ length registers
+  pub room : length (takenFrom links ends m k pick link) ≤ items

@@ -34,6 +34,12 @@ pub enum Found {
     Broken,
 }
 
+// How many rows a list has, where it ends within m of them.
+pub enum Extent {
+    Rows(u32),
+    Broken,
+}
+
 // How many rows a list has, then how many of them a walk takes.
 pub enum Counted {
     Rows(u32, u32),

@@ -3,8 +3,10 @@ ghost use mathlib.Core.Path.{_≡_};
 ghost use lib.ListN.{length};
 ghost use mathlib.Core.List.{map};
 ghost use Rattle.lists.specs.Walk.{picked, rowsFrom, takenFrom, stopFrom, itemOf};
-ghost use Rattle.lists.specs.Parts.{firstOf, countOf, Edges, Gives, HasRow};
+ghost use Rattle.tables.specs.Answers.{out, done};
+ghost use Rattle.lists.specs.Parts.{firstOf, extentOf, countOf, written, Links, Edges, Known, Gives, HasRow};
 use crate::Counted;
+use crate::Extent;
 use crate::Found;
 use crate::Item;
 use crate::Pick;
@@ -53,26 +55,61 @@ pub fn first(links: &[u32], ends: &[u32], m: u32, k: usize, pick: Pick, link: u3
     }
 }
 
-// How many rows there are from `link` on, and how many of them the walk takes.
-pub fn count(links: &[u32], ends: &[u32], m: u32, k: usize, pick: Pick, link: u32) -> Counted
-    requires { ⌜ Edges (length (now links)) (length (now ends)) m k ⌝ }
-    ensures { λ r. ⌜ r ≡ countOf (rowsFrom (now (links .entry)) m k link) (takenFrom (now (links .entry)) (now (ends .entry)) m k pick link) m (stopFrom (now (links .entry)) m k link) ⌝ }
+// How many rows there are from `link` on.
+pub fn count_rows(links: &[u32], m: u32, k: usize, link: u32) -> Extent
+    requires { ⌜ Links (length (now links)) m k ⌝ }
+    ensures { λ r. ⌜ r ≡ extentOf (rowsFrom (now (links .entry)) m k link) m (stopFrom (now (links .entry)) m k link) ⌝ }
+{
+    let mut e = link;
+    let mut rows = 0;
+    while e < m {
+        if rows == m {
+            return Extent::Broken;
+        }
+        e = links[EDGE_CELLS * EdgeIndex(e).index() + k];
+        rows += 1;
+    }
+    Extent::Rows(rows)
+}
+
+// How many of the `rows` rows from `link` on the walk takes.
+pub fn count_taken(
+    links: &[u32],
+    ends: &[u32],
+    m: u32,
+    k: usize,
+    pick: Pick,
+    link: u32,
+    rows: u32,
+) -> u32
+    requires { ⌜ Known (now links) (now ends) m k link rows ⌝ }
+    ensures { λ r. ⌜ r ≡ length (takenFrom (now (links .entry)) (now (ends .entry)) m k pick link) ⌝ }
 {
     let far = 1 - k;
     let mut e = link;
-    let mut rows = 0;
     let mut taken = 0;
-    while e < m {
-        if rows == m {
-            return Counted::Broken;
-        }
+    let mut met = 0;
+    while met < rows {
         let row = EDGE_CELLS * EdgeIndex(e).index();
         if picks(pick, NodeIndex(ends[row + far])) {
             taken += 1;
         }
         e = links[row + k];
-        rows += 1;
+        met += 1;
     }
+    taken
+}
+
+// How many rows there are from `link` on, and how many of them the walk takes.
+pub fn count(links: &[u32], ends: &[u32], m: u32, k: usize, pick: Pick, link: u32) -> Counted
+    requires { ⌜ Edges (length (now links)) (length (now ends)) m k ⌝ }
+    ensures { λ r. ⌜ r ≡ countOf (rowsFrom (now (links .entry)) m k link) (takenFrom (now (links .entry)) (now (ends .entry)) m k pick link) m (stopFrom (now (links .entry)) m k link) ⌝ }
+{
+    let extent = count_rows(links, m, k, link);
+    let Extent::Rows(rows) = extent else {
+        return Counted::Broken;
+    };
+    let taken = count_taken(links, ends, m, k, pick, link, rows);
     Counted::Rows(rows, taken)
 }
 
@@ -90,7 +127,7 @@ fn value(registers: &[u32], ends: &[u32], k: usize, item: Item, e: EdgeIndex) ->
     }
 }
 
-// The items that the walk gives for the `rows` rows from `link` on, into a table of their number.
+// The items that the walk gives for the `rows` rows from `link` on, to the front of a table that has room for them; tells how many they are.
 pub fn give(
     registers: &[u32],
     links: &[u32],
@@ -102,9 +139,10 @@ pub fn give(
     link: u32,
     rows: u32,
     items: &mut [u32],
-)
+) -> usize
     requires { ⌜ Gives (now registers) (now links) (now ends) m k pick link rows (length (now items)) ⌝ }
-    ensures { λ r. ⌜ now (items .exit) ≡ map (itemOf (now (registers .entry)) (now (ends .entry)) item k) (takenFrom (now (links .entry)) (now (ends .entry)) m k pick link) ⌝ }
+    ensures { λ r. ⌜ out (done r) (now (items .exit))
+        ≡ written (map (itemOf (now (registers .entry)) (now (ends .entry)) item k) (takenFrom (now (links .entry)) (now (ends .entry)) m k pick link)) (now (items .entry)) ⌝ }
 {
     let far = 1 - k;
     let mut e = link;
@@ -119,4 +157,5 @@ pub fn give(
         e = links[row + k];
         met += 1;
     }
+    at
 }

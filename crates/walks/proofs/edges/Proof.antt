@@ -1,52 +1,53 @@
--- `walks::edges` meets its contract: each `return` rewrites with the tests that led there. Assumes nothing.
-use borrow.Author.Needs.{needs}
-use borrow.Author.Tests.{le-ltb}
+-- `walks::edges` meets its contract: `guards` finds each test's fact; past the tests the call is its two legs, into three tables.
+use mathlib.Core.Path.{_≡_, _∙_}
 use native.Mathlib.Omega.{arith}
-use Rattle.tables.proofs.Laws.{misfit, fitted, fitting}
+use borrow.Author.Needs.{needs}
+use denote.Ref.{now}
+use Rattle.tables.specs.Net.{Net, net}
+use Rattle.tables.proofs.Guards.{guards, FitOf}
+use Rattle.tables.proofs.Laws.{fitting}
+use Rattle.legs.specs.Legs.{Tables3, tables3, edgesTold}
 use Rattle.walks.specs.Walks.{edges}
-use Rattle.walks.proofs.Calls.{edges-told}
+use Rattle.walks.proofs.Calls.{outward, inward}
 use Rattle.walks.proofs.edges.Statement.{statement}
 use Rattle.walks.proofs.edges.Tie as tie
 
-returns : tie.Need-returns
+-- the network lent, and the output tables
+abbrev lent : tie.Start → Net
+lent s = net (now (s .args .weights)) (now (s .args .heads)) (now (s .args .registers)) (now (s .args .links)) (now (s .args .ends)) (s .args .n) (s .args .m)
+
+abbrev tables : tie.Start → Tables3
+tables s = tables3 (now (s .args .numbers)) (now (s .args .sources)) (now (s .args .targets))
+
+-- past the first test, and past the last
+fit : (c : tie.Else1) → FitOf (lent (search))
+fit c = fitting (c .before .fits2 .ensures) (c .if1 .left)
+
+past : (c : tie.After-walk-edges-arg) → let s : tie.Start = search in let g = lent s in let a = s .args .a .0 in
+    edgesTold (g .registers) (g .links) (g .ends) (g .m) (outward g a) (inward g a) (tables s) ≡ edges g a (tables s)
 unfolding edges
-returns c = rw (misfit (c .before .fits2 .ensures) (c .if1 .taken))
-
-returns-2 : tie.Need-returns-2
-unfolding edges
-returns-2 c = rw (fitted (c .before .before .before .fits2 .ensures) (c .before .before .if1 .left), le-ltb _ _ (c .if2 .taken))
-
-along-requires : tie.Need-along-requires
-along-requires c κs =
-    let f = fitting (c .before .before .before .fits2 .ensures) (c .before .before .if1 .left) in
-    omega arith
-
-along-requires-2 : tie.Need-along-requires-2
-along-requires-2 c κs =
-    let f = fitting (c .before .before .before .before .fits2 .ensures) (c .before .before .before .if1 .left) in
-    omega arith
-
-walk-edges-requires : tie.Need-walk-edges-requires
-walk-edges-requires c κs =
-    let f = fitting (c .before .before .before .before .before .before .before .before .fits2 .ensures) (c .before .before .before .before .before .before .before .if1 .left) in
-    rw (c .before .before .before .before .along .ensures, c .before .before .before .along2 .ensures) (omega arith)
-
-returns-3 : tie.Need-returns-3
-returns-3 c =
-    let e = rw (c .before .before .before .before .before .before .before .before .before .before .before .along .ensures, c .before .before .before .before .before .before .before .before .before .before .along2 .ensures) at (c .before .before .before .before .before .before .walk-edges .ensures) in
-    edges-told _ _ (fitted (c .before .before .before .before .before .before .before .before .before .before .before .before .before .before .before .fits2 .ensures) (c .before .before .before .before .before .before .before .before .before .before .before .before .before .before .if1 .left)) (c .before .before .before .before .before .before .before .before .before .before .before .before .if2 .left) _ e
+past c = search guards depth 9
 
 pub edges-spec : {M : Type 1} → statement M
+unfolding edges
 edges-spec =
     tie.close
     (tie.spec
     (λ c κs. search needs)
-    returns
-    returns-2
-    along-requires
-    along-requires-2
-    walk-edges-requires
+    (λ c. search guards depth 9)
+    (λ c. search guards depth 9)
+    (λ c κs. let f = fit (search) in omega arith)
+    (λ c κs. let f = fit (search) in omega arith)
+    (λ c κs.
+    let i : tie.After-along2 = search in
+    let o : tie.After-along = search in
+    let f = fit (search) in
+    rw (o .along .ensures, i .along2 .ensures) (omega arith))
     (λ c. search needs)
     (λ c. search needs)
     (λ c. search needs)
-    returns-3)
+    (λ c.
+    let w : tie.After-walk-edges = search in
+    let i : tie.After-along2 = search in
+    let o : tie.After-along = search in
+    rw (o .along .ensures, i .along2 .ensures) at (w .walk-edges .ensures) ∙ past (search)))

@@ -1,50 +1,60 @@
--- `walks::edges_between` meets its contract: each `return` rewrites with the tests that led there. Assumes nothing.
-use borrow.Author.Needs.{needs}
-use borrow.Author.Tests.{le-ltb}
+-- `walks::edges_between` meets its contract: `guards` finds each test's fact; past the tests the call is its two legs, which give numbers.
+use mathlib.Core.Path.{_≡_, _∙_}
 use native.Mathlib.Omega.{arith}
-use Rattle.tables.proofs.Laws.{misfit, fitted, fitting}
+use borrow.Author.Needs.{needs}
+use denote.Ref.{now}
+use Rattle.tables.specs.Net.{Net, net}
+use Rattle.tables.proofs.Guards.{guards, FitOf}
+use Rattle.tables.proofs.Laws.{fitting}
+use Rattle.lists.specs.declared.Item.the-variants.{Number}
+use Rattle.lists.specs.declared.Pick.the-variants.{To, ToNot}
+use Rattle.legs.specs.declared.parts.Leg.{Leg}
+use Rattle.legs.specs.Legs.{legAt}
 use Rattle.walks.specs.Walks.{edgesBetween}
-use Rattle.walks.proofs.Calls.{between-told}
+use Rattle.walks.proofs.Calls.{itemsTold, numbers-told}
 use Rattle.walks.proofs.edges_between.Statement.{statement}
 use Rattle.walks.proofs.edges_between.Tie as tie
 
-returns : tie.Need-returns
+-- the network lent
+abbrev lent : tie.Start → Net
+lent s = net (now (s .args .weights)) (now (s .args .heads)) (now (s .args .registers)) (now (s .args .links)) (now (s .args .ends)) (s .args .n) (s .args .m)
+
+-- its legs
+abbrev first : tie.Start → Leg
+first s = legAt (now (s .args .heads)) 0 (To (s .args .b)) (s .args .a .0)
+
+abbrev second : tie.Start → Leg
+second s = legAt (now (s .args .heads)) 1 (ToNot (s .args .b) (s .args .a)) (s .args .a .0)
+
+-- past the first test, and past the last
+fit : (c : tie.Else1) → FitOf (lent (search))
+fit c = fitting (c .before .fits2 .ensures) (c .if1 .left)
+
+past : (c : tie.After-walk-arg) → let s : tie.Start = search in
+    itemsTold (lent s) Number (first s) (second s) (now (s .args .items)) ≡ edgesBetween (lent s) (s .args .a .0) (s .args .b .0) (now (s .args .items))
 unfolding edgesBetween
-returns c = rw (misfit (c .before .fits2 .ensures) (c .if1 .taken))
-
-returns-2 : tie.Need-returns-2
-unfolding edgesBetween
-returns-2 c = rw (fitted (c .before .before .before .fits2 .ensures) (c .before .before .if1 .left), le-ltb _ _ (c .if2 .taken))
-
-along-requires : tie.Need-along-requires
-along-requires c κs =
-    let f = fitting (c .before .before .before .fits2 .ensures) (c .before .before .if1 .left) in
-    omega arith
-
-along-requires-2 : tie.Need-along-requires-2
-along-requires-2 c κs =
-    let f = fitting (c .before .before .before .before .fits2 .ensures) (c .before .before .before .if1 .left) in
-    omega arith
-
-walk-requires : tie.Need-walk-requires
-walk-requires c κs =
-    let f = fitting (c .before .before .before .before .before .before .fits2 .ensures) (c .before .before .before .before .before .if1 .left) in
-    rw (c .before .before .along .ensures, c .before .along2 .ensures) (omega arith)
-
-returns-3 : tie.Need-returns-3
-returns-3 c =
-    let e = rw (c .before .before .before .before .before .along .ensures, c .before .before .before .before .along2 .ensures) at (c .before .before .walk .ensures) in
-    between-told _ _ (fitted (c .before .before .before .before .before .before .before .before .before .fits2 .ensures) (c .before .before .before .before .before .before .before .before .if1 .left)) (c .before .before .before .before .before .before .if2 .left) _ _ e
+past c =
+    let s : tie.Start = search in
+    numbers-told (lent s) (first s) (second s) (now (s .args .items)) ∙ search guards depth 9
 
 pub edges-between-spec : {M : Type 1} → statement M
+unfolding edgesBetween
 edges-between-spec =
     tie.close
     (tie.spec
     (λ c κs. search needs)
-    returns
-    returns-2
-    along-requires
-    along-requires-2
-    walk-requires
+    (λ c. search guards depth 9)
+    (λ c. search guards depth 9)
+    (λ c κs. let f = fit (search) in omega arith)
+    (λ c κs. let f = fit (search) in omega arith)
+    (λ c κs.
+    let i : tie.After-along2 = search in
+    let o : tie.After-along = search in
+    let f = fit (search) in
+    rw (o .along .ensures, i .along2 .ensures) (omega arith))
     (λ c. search needs)
-    returns-3)
+    (λ c.
+    let w : tie.After-walk = search in
+    let i : tie.After-along2 = search in
+    let o : tie.After-along = search in
+    rw (o .along .ensures, i .along2 .ensures) at (w .walk .ensures) ∙ past (search)))

@@ -1,4 +1,4 @@
--- `parts::along` meets its contract. Assumes nothing.
+-- `parts::along` meets its contract: the head of the list is the link that was read.
 use borrow.Author.Needs.{needs}
 use Rattle.legs.proofs.parts.along.Statement.{statement}
 use Rattle.legs.proofs.parts.along.Tie as tie

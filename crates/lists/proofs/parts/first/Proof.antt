@@ -1,4 +1,4 @@
--- `parts::first` meets its contract: of the rows met so far the walk takes none. Assumes nothing.
+-- `parts::first` meets its contract: of the rows met so far the walk takes none.
 use Prim.Native.Nat.{ℕ, _-_}
 use mathlib.Core.Path.{_≡_, refl, sym, _∙_}
 use mathlib.Core.List.{List, [], _∷_, _++_}
@@ -17,15 +17,26 @@ abbrev μ-loop : tie.MeasureT-loop
 μ-loop links ends m k pick link far e₀ rows₀ e rows = m - rows
 
 loop-holds : tie.Need-loop-holds Inv-loop μ-loop
-loop-holds c = ([], begins _ _ _ (c .before .before .fits .link .fits), refl)
+loop-holds c =
+    let start : tie.Start Inv-loop μ-loop = search in
+    ([], begins _ _ _ (start .fits .link .fits), refl)
 
 loop-again : tie.Need-loop-again Inv-loop μ-loop
 loop-again c =
-    let l = c .before .before .before .before .before .before .before .loop in
-    let i = l .inv in
-    let q = c .before .before .before .before .index .ensures in
-    let t = rw q at (sym (c .before .before .picks .ensures) ∙ c .before .if3 .left) in
-    rw q (i .0 ++ (l .e ∷ []), onward (i .1) (c .before .before .before .before .before .before .if1 .left) (c .before .before .before .before .before .if2 .left) (c .shared-slice-known4 .given _ .fits), filter-leaves _ (i .0) (l .e) t ∙ i .2)
+    let left : tie.Else3 Inv-loop μ-loop = search in
+    let asked : tie.After-picks Inv-loop μ-loop = search in
+    let read : tie.After-index Inv-loop μ-loop = search in
+    let more : tie.Else2 Inv-loop μ-loop = search in
+    let inside : tie.Else1 Inv-loop μ-loop = search in
+    let at : tie.At-loop Inv-loop μ-loop = search in
+    let i = at .loop .inv in
+    let q = read .index .ensures in
+    let t = rw q at (sym (asked .picks .ensures) ∙ left .if3 .left) in
+    rw q (
+      i .0 ++ (at .loop .e ∷ []),
+      onward (i .1) (inside .if1 .left) (more .if2 .left) (c .shared-slice-known4 .given _ .fits),
+      filter-leaves _ (i .0) (at .loop .e) t ∙ i .2,
+    )
 
 returns : tie.Need-returns Inv-loop μ-loop
 returns c =
@@ -39,9 +50,14 @@ returns-2 c =
 
 returns-3 : tie.Need-returns-3 Inv-loop μ-loop
 returns-3 c =
-    let i = c .before .before .before .before .before .before .loop .inv in
-    let t = rw (c .before .before .before .index .ensures) at (sym (c .before .picks .ensures) ∙ c .if3 .taken) in
-    first-hit _ (i .1) (i .2) (c .before .before .before .before .before .if1 .left) (c .before .before .before .before .if2 .left) t
+    let asked : tie.After-picks Inv-loop μ-loop = search in
+    let read : tie.After-index Inv-loop μ-loop = search in
+    let more : tie.Else2 Inv-loop μ-loop = search in
+    let inside : tie.Else1 Inv-loop μ-loop = search in
+    let at : tie.At-loop Inv-loop μ-loop = search in
+    let i = at .loop .inv in
+    let t = rw (read .index .ensures) at (sym (asked .picks .ensures) ∙ c .if3 .taken) in
+    first-hit _ (i .1) (i .2) (inside .if1 .left) (more .if2 .left) t
 
 pub first-spec : {M : Type 1} → statement M
 first-spec =

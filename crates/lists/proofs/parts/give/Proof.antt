@@ -1,5 +1,5 @@
--- `parts::give` meets its contract: the items of the rows met so far stand at the front. Assumes nothing.
-use Prim.Native.Nat.{ℕ, _-_, _≤_}
+-- `parts::give` meets its contract: the items of the rows met so far stand at the front.
+use Prim.Native.Nat.{ℕ, _-_, _≤_, _<_}
 use mathlib.Core.Path.{refl, sym, _∙_}
 use mathlib.Core.Logic.{⊎-elim}
 use mathlib.Core.List.{List, [], _∷_, _++_, map}
@@ -23,31 +23,42 @@ abbrev μ-loop : tie.MeasureT-loop
 μ-loop registers links ends m k pick item link rows items₀ far e₀ at₀ met₀ items e at met = rows - met
 
 loop-holds : tie.Need-loop-holds Inv-loop μ-loop
-loop-holds c = ([], begins _ _ _ (c .before .before .before .before .fits .link .fits), record { many = refl; long = refl; so-far = refl }, omega arith)
+loop-holds c =
+    let start : tie.Start Inv-loop μ-loop = search in
+    ([], begins _ _ _ (start .fits .link .fits), record { many = refl; long = refl; so-far = refl }, omega arith)
+
+-- the loop stands at a row
+row : (c : tie.In-loop Inv-loop μ-loop) → let start : tie.Start Inv-loop μ-loop = search in c .before .loop .e < start .args .m
+row c =
+    let start : tie.Start Inv-loop μ-loop = search in
+    below (c .before .loop .inv .1) (start .pre .known .all-rows) (c .loop-test .taken)
 
 shared-slice-read-e : tie.Need-shared-slice-read-e Inv-loop μ-loop
 shared-slice-read-e c =
-    let i = c .before .before .before .loop .inv in
-    let p = c .before .before .before .before .before .before .before .before .pre in
-    let h = below (i .1) (p .all-rows) (c .before .before .loop-test .taken) in
-    omega (arith, c .before .index .ensures, p .edges)
+    let h = row (search) in
+    let start : tie.Start Inv-loop μ-loop = search in
+    let read : tie.After-index Inv-loop μ-loop = search in
+    omega (arith, read .index .ensures, start .pre .known .edges)
 
 value-requires : tie.Need-value-requires Inv-loop μ-loop
 value-requires c κs =
-    let i = c .before .before .before .before .before .loop .inv in
-    let p = c .before .before .before .before .before .before .before .before .before .before .pre in
-    let h = below (i .1) (p .all-rows) (c .before .before .before .before .loop-test .taken) in
-    omega (arith, p .edges)
+    let h = row (search) in
+    let start : tie.Start Inv-loop μ-loop = search in
+    omega (arith, start .pre .known .edges)
 
 slice-write-items : tie.Need-slice-write-items Inv-loop μ-loop
 slice-write-items c =
-    let i = c .before .before .before .before .before .before .loop .inv in
-    let z = c .before .before .before .before .before .before .before .before .before .before .before in
-    let p = z .pre in
-    let t = c .before .before .before .before .before .loop-test .taken in
-    let v = itemOf (now (z .args .registers)) (now (z .args .ends)) (z .args .item) (z .args .k) in
-    let took = rw (c .before .before .before .before .index .ensures) at (sym (c .before .before .picks .ensures) ∙ c .before .if1 .taken) in
-    room _ v (i .1) (p .all-taken) (i .2) (below (i .1) (p .all-rows) t) (short (i .1) (p .all-rows) t) took
+    let taken : tie.Then1 Inv-loop μ-loop = search in
+    let asked : tie.After-picks Inv-loop μ-loop = search in
+    let read : tie.After-index Inv-loop μ-loop = search in
+    let turn : tie.In-loop Inv-loop μ-loop = search in
+    let start : tie.Start Inv-loop μ-loop = search in
+    let a = start .args in
+    let p = start .pre in
+    let i = turn .before .loop .inv in
+    let v = itemOf (now (a .registers)) (now (a .ends)) (a .item) (a .k) in
+    let took = rw (read .index .ensures) at (sym (asked .picks .ensures) ∙ taken .if1 .taken) in
+    room _ v (i .1) (p .room) (i .2) (row turn) (short (i .1) (p .known .all-rows) (turn .loop-test .taken)) took
 
 mul-items : tie.Need-mul-items Inv-loop μ-loop
 mul-items c =
@@ -61,36 +72,39 @@ add-at c =
 
 shared-slice-read-e-2 : tie.Need-shared-slice-read-e-2 Inv-loop μ-loop
 shared-slice-read-e-2 c =
-    let i = c .before .before .before .before .before .before .loop .inv in
-    let p = c .before .before .before .before .before .before .before .before .before .before .before .pre in
-    let h = below (i .1) (p .all-rows) (c .before .before .before .before .before .loop-test .taken) in
-    omega (arith, c .before .before .before .before .index .ensures, p .edges)
+    let h = row (search) in
+    let start : tie.Start Inv-loop μ-loop = search in
+    let read : tie.After-index Inv-loop μ-loop = search in
+    omega (arith, read .index .ensures, start .pre .known .edges)
 
 loop-again : tie.Need-loop-again Inv-loop μ-loop
 loop-again c =
-    let l = c .before .before .before .before .before .before .loop in
-    let i = l .inv in
-    let p = c .before .before .before .before .before .before .before .before .before .before .before .pre in
-    let q = c .before .before .before .before .index .ensures in
-    let r = sym (c .before .before .picks .ensures) in
-    let t = c .before .before .before .before .before .loop-test .taken in
-    let h = below (i .1) (p .all-rows) t in
-    let n = short (i .1) (p .all-rows) t in
+    let asked : tie.After-picks Inv-loop μ-loop = search in
+    let read : tie.After-index Inv-loop μ-loop = search in
+    let turn : tie.In-loop Inv-loop μ-loop = search in
+    let start : tie.Start Inv-loop μ-loop = search in
+    let p = start .pre in
+    let i = turn .before .loop .inv in
+    let e = turn .before .loop .e in
+    let q = read .index .ensures in
+    let r = sym (asked .picks .ensures) in
+    let h = row turn in
+    let n = short (i .1) (p .known .all-rows) (turn .loop-test .taken) in
     rw q (
-      i .0 ++ (l .e ∷ []),
+      i .0 ++ (e ∷ []),
       onward (i .1) h n (c .shared-slice-known5 .given _ .fits),
       ⊎-elim
-          (λ w. rw (w .2, w .3, w .1 .ensures) (gives-row _ _ (i .1) (p .all-taken) (i .2) h n (rw q at (r ∙ w .0 .taken))))
-          (λ w. rw (w .1, w .2) (passes-row _ _ (i .1) (p .all-taken) (i .2) (rw q at (r ∙ w .0 .left))))
+          (λ w. rw (w .2, w .3, w .1 .ensures) (gives-row _ _ (i .1) (p .room) (i .2) h n (rw q at (r ∙ w .0 .taken))))
+          (λ w. rw (w .1, w .2) (passes-row _ _ (i .1) (p .room) (i .2) (rw q at (r ∙ w .0 .left))))
           (c .before .if1 .came),
       omega arith,
     )
 
 returns : tie.Need-returns Inv-loop μ-loop
 returns c =
+    let start : tie.Start Inv-loop μ-loop = search in
     let i = c .before .loop .inv in
-    let p = c .before .before .before .before .before .before .pre in
-    given _ _ (i .1) (p .all-taken) (i .2) (p .all-rows ∙ omega arith)
+    given _ _ (i .1) (start .pre .room) (i .2) (start .pre .known .all-rows ∙ omega arith)
 
 pub give-spec : {M : Type 1} → statement M
 give-spec =
