@@ -1,4 +1,4 @@
--- The ways in which a node's removal ends, in plain columns: what the code leaves is what the definition says. Assumes nothing.
+-- The ways in which a node's removal ends, in plain columns: what the code leaves is what the definition says.
 use Prim.Native.Nat.{ℕ, _+_, _-_, _≤_, _<_}
 use mathlib.Core.Path.{_≡_, sym, ap, ap₂, _∙_}
 use mathlib.Core.Bool.{true, false}
@@ -20,6 +20,7 @@ use Rattle.lists.specs.declared.Item.the-variants.{Weight}
 use Rattle.lists.specs.declared.Pick.the-variants.{Every, NotTo}
 use Rattle.lists.specs.Walk.{linkAt, rowsFrom, picks, gives, around}
 use Rattle.lists.proofs.Chains.{chain-ends}
+use Rattle.legs.specs.declared.parts.Leg.{Leg}
 use Rattle.legs.specs.declared.parts.Settled.{Settled}
 use Rattle.legs.specs.declared.parts.Settled.the-variants.{Rows}
 use Rattle.legs.specs.declared.parts.Settled.the-variants as Settled·
@@ -40,29 +41,34 @@ use Rattle.stripping.proofs.Stripping.{given-are}
 pub fit-of : {W : List ℤ} {H R L E : List ℕ} {n m a : ℕ} → Closable (net W H R L E n m) a → Fit (length W) (length H) (length R) (length L) (length E) n m
 fit-of {W} {H} {R} {L} {E} {n} {m} C = fitOf (net W H R L E n m) (C .fit)
 
--- stripped, then dropped
-pub node-taken : (g : Net) (a : ℕ) (I H₁ R₁ L₁ E₁ : List ℕ) (m₁ : ℕ) (given : List ℕ) (rows count at : ℕ) (I₁ : List ℕ) (W₂ : List ℤ) (H₂ E₂ : List ℕ) (n₂ more : ℕ)
-    → at ≡ a → strip (net (g .weights) H₁ R₁ L₁ E₁ (g .n) m₁) given rows ≡ stripped g a → count ≡ length given → I₁ ≡ onto given I
+-- stripped, then dropped; the code has read the weight w of row `at`
+pub node-taken : (g : Net) (a : ℕ) (I H₁ R₁ L₁ E₁ : List ℕ) (m₁ : ℕ) (given : List ℕ) (rows count at : ℕ) (w : ℤ) (I₁ : List ℕ) (W₂ : List ℤ) (H₂ E₂ : List ℕ) (n₂ more : ℕ)
+    → at ≡ a → w ≡ getD (g .weights) at (pos 0) → strip (net (g .weights) H₁ R₁ L₁ E₁ (g .n) m₁) given rows ≡ stripped g a → count ≡ length given → I₁ ≡ onto given I
     → W₂ ≡ set (set (g .weights) a (getD (g .weights) (g .n - 1) (pos 0))) (g .n - 1) (pos 0)
     → H₂ ≡ headsWith (headsWith H₁ a (nodeRow (net [] H₁ [] [] [] 0 0) (g .n - 1))) (g .n - 1) vacantNode
     → E₂ ≡ ended 1 a (rowsFrom L₁ m₁ 1 (getD H₁ (nodeCell (g .n - 1) 1) 0)) (ended 0 a (rowsFrom L₁ m₁ 0 (getD H₁ (nodeCell (g .n - 1) 0) 0)) E₁)
     → n₂ ≡ g .n - 1
     → more ≡ length (rowsFrom L₁ m₁ 0 (getD H₁ (nodeCell (g .n - 1) 0) 0)) + length (rowsFrom L₁ m₁ 1 (getD H₁ (nodeCell (g .n - 1) 1) 0))
-    → out (done (getD (g .weights) at (pos 0), rows + more, count)) (net W₂ H₂ R₁ L₁ E₂ n₂ m₁, I₁) ≡ closed g a I (stripped g a)
+    → out (done (w, rows + more, count)) (net W₂ H₂ R₁ L₁ E₂ n₂ m₁, I₁) ≡ closed g a I (stripped g a)
 unfolding dropped withNode
-node-taken g a I H₁ R₁ L₁ E₁ m₁ given rows count at I₁ W₂ H₂ E₂ n₂ more i s c j p q r z t = rw (i, ← s, c, j, p, q, r, z, t)
+node-taken g a I H₁ R₁ L₁ E₁ m₁ given rows count at w I₁ W₂ H₂ E₂ n₂ more i v s c j p q r z t = rw (v, i, ← s, c, j, p, q, r, z, t)
+
+-- what is told of a node's two lists, and how the code comes to it
+abbrev pub both : Net → ℕ → Settled
+both g a = settled (g .links) (g .ends) (g .m) (legAt (g .heads) 0 Every a) (legAt (g .heads) 1 (NotTo (record { 0 = a })) a)
+
+pub both-settled : (g : Net) (a : ℕ) {v : Settled} {p q : Leg} → p ≡ legAt (g .heads) 0 Every a → q ≡ legAt (g .heads) 1 (NotTo (record { 0 = a })) a
+    → v ≡ settled (g .links) (g .ends) (g .m) p q → v ≡ both g a
+both-settled g a p q z = rw (p, q) at z
 
 -- the two lists of a node of a sound network are counted
 module _ (g : Net) (a : ℕ) (C : Closable g a) where
-  abbrev both : Settled
-  both = settled (g .links) (g .ends) (g .m) (legAt (g .heads) 0 Every a) (legAt (g .heads) 1 (NotTo (record { 0 = a })) a)
-
   edges-around : length (around g Weight a) ≡ length (picks g 0 Every a) + length (picks g 1 (NotTo (record { 0 = a })) a)
   edges-around =
       length-append (map (gives g Weight 0) (picks g 0 Every a)) (map (gives g Weight 1) (picks g 1 (NotTo (record { 0 = a })) a))
       ∙ ap₂ (λ x y. x + y) (length-map (picks g 0 Every a) (gives g Weight 0)) (length-map (picks g 1 (NotTo (record { 0 = a })) a) (gives g Weight 1))
 
-  both-are : both
+  both-are : both g a
       ≡ Rows (length (rowsFrom (g .links) (g .m) 0 (linkAt g 0 (Head a)))) (length (picks g 0 Every a)) (length (rowsFrom (g .links) (g .m) 1 (linkAt g 1 (Head a))))
       (length (around g Weight a))
   both-are =
@@ -74,13 +80,13 @@ module _ (g : Net) (a : ℕ) (C : Closable g a) where
         edges-around,
       )
 
-  pub not-broken : (v : Settled) → v ≡ both → v ≡ Settled·.Broken → ⊥
+  pub not-broken : (v : Settled) → v ≡ both g a → v ≡ Settled·.Broken → ⊥
   not-broken v p q =
       let z = sym q ∙ p ∙ both-are in
       let t : _≡_ {A = ℕ} 0 1 = cc in
       omega arith
 
-  pub count-is : (v : Settled) (q r s count : ℕ) → v ≡ both → v ≡ Rows q r s count → count ≡ length (around g Weight a)
+  pub count-is : (v : Settled) (q r s count : ℕ) → v ≡ both g a → v ≡ Rows q r s count → count ≡ length (around g Weight a)
   count-is v q r s count p z =
       let t = sym z ∙ p ∙ both-are in
       cc

@@ -1,5 +1,5 @@
 -- The rows that a load leaves: those of the image, vacant ones past them (`loaded-node`, `loaded-edge`, `node-past`, `edge-past`),
--- in columns of the same lengths (`loaded-fits`). Assumes nothing.
+-- in columns of the same lengths (`loaded-fits`).
 use Prim.Native.Nat.{ℕ, zero, suc, _+_, _-_, _*_, _≤_, _<_}
 use mathlib.Core.Path.{_≡_, refl, sym, ap, _∙_}
 use mathlib.Core.Bool.{true}
@@ -49,40 +49,52 @@ module _ {A : Type 0} (f : ℕ → A) where
         | no q ↦ getD-set-other (ones n l) n a (f n) d q ∙ ones-at n l a d (omega arith) (omega arith)
       ]
 
--- two cells a row
-module _ (f g : ℕ → ℕ) where
+-- the first two cells of a row, wherever a row's cells stand: no two are the same
+abbrev Apart : (ℕ → ℕ → ℕ) → Type 0
+Apart cell = (a b j k : ℕ) → j < 2 → k < 2 → cell a j ≡ cell b k → (a ≡ b) × (j ≡ k)
+
+nodes-apart : Apart nodeCell
+nodes-apart a b j k hj hk e = omega arith
+
+edges-apart : Apart edgeCell
+edges-apart a b j k hj hk e = omega arith
+
+module _ (cell : ℕ → ℕ → ℕ) (f g : ℕ → ℕ) where
   abbrev twos : ℕ → List ℕ → List ℕ
-  twos n l = each (λ r i. set (set r (2 * i + 0) (f i)) (2 * i + 1) (g i)) n l
+  twos n l = each (λ r i. set (set r (cell i 0) (f i)) (cell i 1) (g i)) n l
 
   twos-length : (n : ℕ) (l : List ℕ) → length (twos n l) ≡ length l
   twos-length n l =
-      each-length (λ r i. set (set r (2 * i + 0) (f i)) (2 * i + 1) (g i))
-      (λ r i. length-set (set r (2 * i + 0) (f i)) (2 * i + 1) (g i) ∙ length-set r (2 * i + 0) (f i)) n l
+      each-length (λ r i. set (set r (cell i 0) (f i)) (cell i 1) (g i))
+      (λ r i. length-set (set r (cell i 0) (f i)) (cell i 1) (g i) ∙ length-set r (cell i 0) (f i)) n l
 
-  twos-at : (n : ℕ) (l : List ℕ) (a : ℕ) → a < n → 2 * n ≤ length l → (getD (twos n l) (2 * a + 0) 0 ≡ f a) × (getD (twos n l) (2 * a + 1) 0 ≡ g a)
+  twos-at : Apart cell → (n : ℕ) (l : List ℕ) → ((i k : ℕ) → i < n → k < 2 → cell i k < length l)
+      → (a : ℕ) → a < n → (getD (twos n l) (cell a 0) 0 ≡ f a) × (getD (twos n l) (cell a 1) 0 ≡ g a)
   unfolding each
-  twos-at zero l a h k = absurd (omega arith)
-  twos-at (suc n) l a h k =
+  twos-at apart zero l holds a h = absurd (omega arith)
+  twos-at apart (suc n) l holds a h =
       let r = twos n l in
-      let w = set r (2 * n + 0) (f n) in
+      let w = set r (cell n 0) (f n) in
       let lr : length r ≡ length l = twos-length n l in
+      let one : (i j k : ℕ) → j < 2 → k < 2 → (j ≡ k → ⊥) → cell i j ≡ cell n k → ⊥ = λ i j k hj hk d e. d (apart i n j k hj hk e .1) in
       elim (ℕ-discrete a n) [
         | yes q ↦ (
-          ap (λ i. getD (twos (suc n) l) (2 * i + 0) 0) q
-              ∙ getD-set-other w (2 * n + 1) (2 * n + 0) (g n) 0 (λ e. omega arith)
-              ∙ getD-set-same r (2 * n + 0) (f n) 0 (omega arith)
+          ap (λ i. getD (twos (suc n) l) (cell i 0) 0) q
+              ∙ getD-set-other w (cell n 1) (cell n 0) (g n) 0 (one n 0 1 (omega arith) (omega arith) (λ e. omega arith))
+              ∙ getD-set-same r (cell n 0) (f n) 0 (rw lr (holds n 0 (omega arith) (omega arith)))
               ∙ ap f (sym q),
-          ap (λ i. getD (twos (suc n) l) (2 * i + 1) 0) q
-              ∙ getD-set-same w (2 * n + 1) (g n) 0 (rw (length-set r (2 * n + 0) (f n)) (omega arith))
+          ap (λ i. getD (twos (suc n) l) (cell i 1) 0) q
+              ∙ getD-set-same w (cell n 1) (g n) 0 (rw (length-set r (cell n 0) (f n), lr) (holds n 1 (omega arith) (omega arith)))
               ∙ ap g (sym q),
         )
         | no q ↦
-            (let i = twos-at n l a (omega arith) (omega arith) in (
-              getD-set-other w (2 * n + 1) (2 * a + 0) (g n) 0 (λ e. omega arith)
-                  ∙ getD-set-other r (2 * n + 0) (2 * a + 0) (f n) 0 (λ e. q (omega arith))
+            (let i = twos-at apart n l (λ i k hi hk. holds i k (omega arith) hk) a (omega arith) in
+            let other : (j k : ℕ) → j < 2 → k < 2 → cell a j ≡ cell n k → ⊥ = λ j k hj hk e. q (apart a n j k hj hk e .0) in (
+              getD-set-other w (cell n 1) (cell a 0) (g n) 0 (other 0 1 (omega arith) (omega arith))
+                  ∙ getD-set-other r (cell n 0) (cell a 0) (f n) 0 (other 0 0 (omega arith) (omega arith))
                   ∙ i .0,
-              getD-set-other w (2 * n + 1) (2 * a + 1) (g n) 0 (λ e. q (omega arith))
-                  ∙ getD-set-other r (2 * n + 0) (2 * a + 1) (f n) 0 (λ e. omega arith)
+              getD-set-other w (cell n 1) (cell a 1) (g n) 0 (other 1 1 (omega arith) (omega arith))
+                  ∙ getD-set-other r (cell n 0) (cell a 1) (f n) 0 (other 1 0 (omega arith) (omega arith))
                   ∙ i .1,
             ))
       ]
@@ -93,16 +105,16 @@ module _ (t : Net) (bytes : List ℕ) (n m : ℕ) where
   weightsIn = ones (λ i. nodeIn bytes i .weight) n (t .weights)
 
   abbrev headsIn : List ℕ
-  headsIn = twos (λ i. nodeIn bytes i .outgoing .0) (λ i. nodeIn bytes i .incoming .0) n (t .heads)
+  headsIn = twos nodeCell (λ i. nodeIn bytes i .outgoing .0) (λ i. nodeIn bytes i .incoming .0) n (t .heads)
 
   abbrev registersIn : List ℕ
   registersIn = ones (λ i. edgeIn bytes n i .weight) m (t .registers)
 
   abbrev linksIn : List ℕ
-  linksIn = twos (λ i. edgeIn bytes n i .outgoing .0) (λ i. edgeIn bytes n i .incoming .0) m (t .links)
+  linksIn = twos edgeCell (λ i. edgeIn bytes n i .outgoing .0) (λ i. edgeIn bytes n i .incoming .0) m (t .links)
 
   abbrev endsIn : List ℕ
-  endsIn = twos (λ i. edgeIn bytes n i .source .0) (λ i. edgeIn bytes n i .target .0) m (t .ends)
+  endsIn = twos edgeCell (λ i. edgeIn bytes n i .source .0) (λ i. edgeIn bytes n i .target .0) m (t .ends)
 
   abbrev columns : Net
   columns =
@@ -122,16 +134,16 @@ module _ (t : Net) (bytes : List ℕ) (n m : ℕ) where
   weights-length = ones-length (λ i. nodeIn bytes i .weight) n (t .weights)
 
   heads-length : length headsIn ≡ length (t .heads)
-  heads-length = twos-length (λ i. nodeIn bytes i .outgoing .0) (λ i. nodeIn bytes i .incoming .0) n (t .heads)
+  heads-length = twos-length nodeCell (λ i. nodeIn bytes i .outgoing .0) (λ i. nodeIn bytes i .incoming .0) n (t .heads)
 
   registers-length : length registersIn ≡ length (t .registers)
   registers-length = ones-length (λ i. edgeIn bytes n i .weight) m (t .registers)
 
   links-length : length linksIn ≡ length (t .links)
-  links-length = twos-length (λ i. edgeIn bytes n i .outgoing .0) (λ i. edgeIn bytes n i .incoming .0) m (t .links)
+  links-length = twos-length edgeCell (λ i. edgeIn bytes n i .outgoing .0) (λ i. edgeIn bytes n i .incoming .0) m (t .links)
 
   ends-length : length endsIn ≡ length (t .ends)
-  ends-length = twos-length (λ i. edgeIn bytes n i .source .0) (λ i. edgeIn bytes n i .target .0) m (t .ends)
+  ends-length = twos-length edgeCell (λ i. edgeIn bytes n i .source .0) (λ i. edgeIn bytes n i .target .0) m (t .ends)
 
   -- counts within the rows lent
   module _ (fit-t : fits t ≡ true) (hn : n ≤ length (t .weights)) (hm : m ≤ length (t .registers)) where
@@ -167,7 +179,7 @@ module _ (t : Net) (bytes : List ℕ) (n m : ℕ) where
     pub loaded-node : (a : ℕ) → a < n → nodeRow (loaded t bytes n m) a ≡ nodeIn bytes a
     loaded-node a h =
         let f = lent in
-        let w = twos-at (λ i. nodeIn bytes i .outgoing .0) (λ i. nodeIn bytes i .incoming .0) n (t .heads) a h (omega arith) in
+        let w = twos-at nodeCell (λ i. nodeIn bytes i .outgoing .0) (λ i. nodeIn bytes i .incoming .0) nodes-apart n (t .heads) (λ i k hi hk. omega arith) a h in
         let last = nodeCells * length (t .weights) in
         ap (λ g. nodeRow g a) loaded-columns
         ∙ rw (
@@ -182,8 +194,8 @@ module _ (t : Net) (bytes : List ℕ) (n m : ℕ) where
     pub loaded-edge : (e : ℕ) → e < m → edgeRow (loaded t bytes n m) e ≡ edgeIn bytes n e
     loaded-edge e h =
         let f = lent in
-        let l = twos-at (λ i. edgeIn bytes n i .outgoing .0) (λ i. edgeIn bytes n i .incoming .0) m (t .links) e h (omega arith) in
-        let k = twos-at (λ i. edgeIn bytes n i .source .0) (λ i. edgeIn bytes n i .target .0) m (t .ends) e h (omega arith) in
+        let l = twos-at edgeCell (λ i. edgeIn bytes n i .outgoing .0) (λ i. edgeIn bytes n i .incoming .0) edges-apart m (t .links) (λ i k hi hk. omega arith) e h in
+        let k = twos-at edgeCell (λ i. edgeIn bytes n i .source .0) (λ i. edgeIn bytes n i .target .0) edges-apart m (t .ends) (λ i k hi hk. omega arith) e h in
         let last = edgeCells * length (t .registers) in
         ap (λ g. edgeRow g e) loaded-columns
         ∙ rw (

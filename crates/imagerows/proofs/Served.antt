@@ -1,4 +1,4 @@
--- What the parts leave is what the definitions say, over plain columns. Assumes nothing.
+-- What the parts leave is what the definitions say, over plain columns.
 use Prim.Native.Nat.{ℕ, zero, suc, _*_, _≤_}
 use mathlib.Core.Path.{_≡_, refl, sym, ap, _∙_}
 use mathlib.Core.List.{List, _++_, append-assoc}

@@ -1,4 +1,4 @@
--- Where an image's numbers and rows stand: `of-image`; and a file's spans put together again: `image-again`. Assumes nothing.
+-- Where an image's numbers and rows stand: `of-image`; and a file's spans put together again: `image-again`.
 use Prim.Native.Nat.{ℕ, zero, suc, _+_, _*_, _^_, _≤_, _<_}
 use mathlib.Core.Path.{_≡_, refl, sym, ap, ap₂, _∙_}
 use mathlib.Core.Bool.{true, _&&_}

@@ -1,4 +1,4 @@
--- One turn of a loop over rows. Assumes nothing.
+-- One turn of a loop over rows.
 use Prim.Native.Nat.{ℕ, zero, suc, _+_, _*_, _≤_}
 use mathlib.Core.Path.{_≡_, refl, sym, ap, ap₂, _∙_}
 use mathlib.Core.List.{List}

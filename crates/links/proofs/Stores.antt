@@ -1,12 +1,14 @@
 -- A link stored at one spot: it stands there, `lead-at`, the others stand as before, `lead-off`, and those of the other direction all do, `across`;
--- the columns keep their lengths, and a link that is stored again is back, `heads-back`, `links-back`. Assumes nothing.
+-- the columns keep their lengths, and a link that is stored again is back, `heads-back`, `links-back`. A row moved: `registers-moved`, `links-moved`, `ends-moved`.
 use Prim.Native.Nat.{ℕ, _<_}
 use mathlib.Core.Path.{_≡_, refl, ap, _∙_, fun-ext}
-use mathlib.Core.List.{List}
+use mathlib.Core.List.{List, []}
 use native.Mathlib.Omega.{arith}
 use lib.ListN.{length, getD, set, length-set}
 use lib.Seq.{getD-set-same, getD-set-other, set-set, set-getD}
-use Rattle.tables.specs.Net.{nodeCell, edgeCell}
+use Rattle.tables.specs.declared.row.Edge.{Edge}
+use Rattle.tables.specs.Net.{net, nodeCell, edgeCell}
+use Rattle.tables.specs.Rows.{edgeRow, vacantEdge, linksWith, endsWith}
 use Rattle.lists.specs.declared.Spot.{Spot}
 use Rattle.lists.specs.declared.Spot.the-variants.{Head, After}
 use Rattle.lists.specs.Walk.{linkIn}
@@ -59,3 +61,16 @@ module _ (heads links : List ℕ) (k : ℕ) (v e : ℕ) where
   unfolding linksAt
   links-back (Head a) h = refl
   links-back (After p) h = back links (edgeCell p k) v e h
+
+-- row l is copied over row e and vacant, column by column; the code has read the numbers as i, j and k
+module _ {e l i j k : ℕ} (at-e : i ≡ e) (at-l : j ≡ l) (from-l : k ≡ l) {z : Edge} (vacant : z ≡ vacantEdge) where
+  pub registers-moved : (R : List ℕ) {R₁ R₂ : List ℕ} → R₁ ≡ set R i (getD R k 0) → R₂ ≡ set R₁ j (z .weight) → R₂ ≡ set (set R e (getD R l 0)) l 0
+  registers-moved R p q = rw (q, p, at-e, at-l, from-l, vacant)
+
+  pub links-moved : (L : List ℕ) {L₁ L₂ : List ℕ} → L₁ ≡ linksWith L i (edgeRow (net [] [] [] L [] 0 0) k) → L₂ ≡ linksWith L₁ j z
+      → L₂ ≡ linksWith (linksWith L e (edgeRow (net [] [] [] L [] 0 0) l)) l vacantEdge
+  links-moved L p q = rw (q, p, at-e, at-l, from-l, vacant)
+
+  pub ends-moved : (E : List ℕ) {E₁ E₂ : List ℕ} → E₁ ≡ endsWith E i (edgeRow (net [] [] [] [] E 0 0) k) → E₂ ≡ endsWith E₁ j z
+      → E₂ ≡ endsWith (endsWith E e (edgeRow (net [] [] [] [] E 0 0) l)) l vacantEdge
+  ends-moved E p q = rw (q, p, at-e, at-l, from-l, vacant)

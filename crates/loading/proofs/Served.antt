@@ -1,4 +1,4 @@
--- What the parts leave is what the definitions say, over plain columns. Assumes nothing.
+-- What the parts leave is what the definitions say, over plain columns.
 use Prim.{Unit, tt}
 use Prim.Native.Nat.{ℕ, _*_}
 use mathlib.Core.Path.{_≡_, ap, _∙_}

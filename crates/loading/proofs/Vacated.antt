@@ -1,5 +1,4 @@
 -- Tables that are left empty are vacant throughout: `vacated-is-vacant`; and a load that is broken leaves the tables lent so: `loaded-vacated`.
--- Assumes nothing.
 use Prim.Native.Nat.{ℕ, _*_, _≤_}
 use mathlib.Core.Path.{_≡_, refl, sym, ap₂, _∙_}
 use mathlib.Core.Bool.{true}

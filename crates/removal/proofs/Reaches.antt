@@ -1,4 +1,4 @@
--- An edge that is found in both lists: links lead to it, and the columns have their spots, `reached`, `places-kept`. Assumes nothing.
+-- An edge that is found in both lists: links lead to it, and the columns have their spots, `reached`, `places-kept`.
 use Prim.Native.Nat.{ℕ, _+_, _≤_}
 use mathlib.Core.Path.{_≡_, refl, sym, _∙_}
 use mathlib.Core.List.{List}
@@ -8,6 +8,7 @@ use Rattle.lists.specs.declared.Spot.{Spot}
 use Rattle.lists.specs.Walk.{cell, linkIn}
 use Rattle.links.specs.declared.Search.{Search}
 use Rattle.links.specs.declared.Search.the-variants.{At, Lost}
+use Rattle.links.specs.declared.Located.{Located}
 use Rattle.links.specs.declared.Located.the-variants as Located·
 use Rattle.links.specs.Links.{located}
 use Rattle.links.specs.Parts.{Within, Places}
@@ -26,10 +27,13 @@ pub record Reached (heads links : List ℕ) (n m e : ℕ) (s t : Spot) (rows : �
   pub few : rows ≤ m + m
 
 -- an edge that is found in both lists
-pub reached : (heads links ends : List ℕ) (n m e : ℕ) (s t : Spot) (rows : ℕ) → located heads links ends n m e ≡ Located·.At s t rows
+pub reached : (heads links ends : List ℕ) (n m e : ℕ) (r : Located) (s t : Spot) (rows : ℕ) → r ≡ located heads links ends n m e → r ≡ Located·.At s t rows
     → Reached heads links n m e s t rows
-reached heads links ends n m e s t rows is = go (found heads links ends n m e 0) (found heads links ends n m e 1) refl refl
+reached heads links ends n m e r s t rows told at = go (found heads links ends n m e 0) (found heads links ends n m e 1) refl refl
   where
+    is : located heads links ends n m e ≡ Located·.At s t rows
+    is = sym told ∙ at
+
     go : (f g : Search) → found heads links ends n m e 0 ≡ f → found heads links ends n m e 1 ≡ g → Reached heads links n m e s t rows
     go (At s′ q) (At t′ r) p w =
         let z : Located·.At s′ t′ (q + r) ≡ Located·.At s t rows = sym (located-at heads links ends n m e s′ t′ q r p w) ∙ is in

@@ -153,7 +153,8 @@ module _ (n k a : ℕ) (H₀ R₀ L₀ E₀ : List ℕ) (m₀ : ℕ) (I₀ : Lis
         (is : (T : List ℤ) → out (done (w, moved, read)) (net T H′ R′ L′ E′ n m′) ≡ takenOut (net T H R L E n m) (linkIn H L k (Head a))) where
       fewer-by-one : m′ ≡ m - 1
       fewer-by-one =
-          ap (λ (x : Gone). x .after .m) (is (t .alive .totals)) ∙ taken-out (net (t .alive .totals) H R L E n m) (t .alive .lists) (linkIn H L k (Head a)) (t .alive .fit) (t .alive .sound) edge .edges
+          ap (λ (x : Gone). x .after .m) (is (t .alive .totals))
+          ∙ taken-out (net (t .alive .totals) H R L E n m) (t .alive .lists) (linkIn H L k (Head a)) (t .alive .fit) (t .alive .sound) edge .edges
 
       still-alive : Alive n H′ R′ L′ E′ m′
       still-alive =

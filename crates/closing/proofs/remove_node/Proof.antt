@@ -1,4 +1,4 @@
--- `remove_node` meets its contract: `guards` finds each test's fact; past the tests the call is its part. Assumes nothing.
+-- `remove_node` meets its contract: `guards` finds each test's fact; past the tests the call is its part.
 use mathlib.Core.Path.{_≡_, sym, _∙_}
 use borrow.Author.Needs.{needs}
 use denote.Ref.{now}

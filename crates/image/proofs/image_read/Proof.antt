@@ -1,4 +1,4 @@
--- `image_read` meets its contract: `guards` finds each test's fact; past the tests the call is its part. Assumes nothing.
+-- `image_read` meets its contract: `guards` finds each test's fact; past the tests the call is its part.
 use Prim.Native.Nat.{ℕ}
 use mathlib.Core.Path.{_≡_, sym, _∙_}
 use mathlib.Core.Bool.{true, false}

@@ -1,54 +1,49 @@
--- `image_write` meets its contract: each `return` rewrites with the tests that led there. Assumes nothing.
+-- `image_write` meets its contract: `guards` finds each test's fact; past the tests the image is given.
+use Prim.Native.Nat.{ℕ}
+use mathlib.Core.Path.{_≡_, _∙_}
+use mathlib.Core.List.{List}
 use native.Mathlib.Omega.{arith}
 use borrow.Author.Needs.{needs}
-use Rattle.tables.proofs.Laws.{misfit, fitted, fitting}
+use denote.Ref.{now}
+use lib.ListN.{length}
+use Rattle.tables.specs.Net.{Net, net}
+use Rattle.tables.specs.Answers.{out, done, onto}
+use Rattle.tables.proofs.Guards.{guards, FitOf}
+use Rattle.tables.proofs.Laws.{fitting}
+use Rattle.imagerows.specs.Image.{imageOf}
 use Rattle.image.specs.Calls.{imageWrite}
-use Rattle.image.proofs.Served.{write-short, write-served}
+use Rattle.image.proofs.Served.{rooms, image-given}
 use Rattle.image.proofs.image_write.Statement.{statement}
 use Rattle.image.proofs.image_write.Tie as tie
 
-returns : tie.Need-returns
+-- the network lent
+abbrev lent : tie.Start → Net
+lent s = net (now (s .args .weights)) (now (s .args .heads)) (now (s .args .registers)) (now (s .args .links)) (now (s .args .ends)) (s .args .n) (s .args .m)
+
+-- past the first test, and past the last
+fit : (c : tie.Else1) → FitOf (lent (search))
+fit c = fitting (c .before .fits2 .ensures) (c .if1 .left)
+
+past : (c : tie.After-write-arg) → let s : tie.Start = search in out (done (length (imageOf (lent s)))) (onto (imageOf (lent s)) (now (s .args .bytes)))
+    ≡ imageWrite (lent s) (now (s .args .bytes))
 unfolding imageWrite
-returns c = rw (misfit (c .before .fits2 .ensures) (c .if1 .taken))
-
-returns-2 : tie.Need-returns-2
-unfolding imageWrite
-returns-2 c = rw (fitted (c .before .before .before .fits2 .ensures) (c .before .before .if1 .left), misfit (c .before .is-sound .ensures) (c .if2 .taken))
-
-returns-3 : tie.Need-returns-3
-returns-3 c = write-short _ _ (fitted (c .before .before .before .before .before .fits2 .ensures) (c .before .before .before .before .if1 .left)) (fitted (c .before .before .before .is-sound .ensures) (c .before .before .if2 .left)) (c .before .image-length .ensures) (c .if3 .taken)
-
-write-requires : tie.Need-write-requires
-write-requires c κs =
-    let f = fitting (c .before .before .before .before .before .before .fits2 .ensures) (c .before .before .before .before .before .if1 .left) in
-    let k = c .before .before .image-length .ensures in
-    let h = c .before .if3 .left in
-    record {
-      nodes = record { weights-hold = f .n-within; heads-hold = omega arith; bytes-hold = omega arith };
-      edges = record { registers-hold = f .m-within; links-hold = omega arith; ends-hold = omega arith; bytes-hold = omega arith };
-      agree = record { heads-agree = f .heads-agree; links-agree = f .links-agree; ends-agree = f .ends-agree };
-    }
-
-cast-t19 : tie.Need-cast-t19
-cast-t19 c =
-    let f = fitting (c .before .before .before .before .before .before .before .before .before .fits2 .ensures) (c .before .before .before .before .before .before .before .before .if1 .left) in
-    let k = c .before .before .before .before .before .image-length .ensures in
-    record { fits = omega arith }
-
-returns-4 : tie.Need-returns-4
-returns-4 c = write-served _ _ (fitted (c .before .before .before .before .before .before .before .before .before .fits2 .ensures) (c .before .before .before .before .before .before .before .before .if1 .left)) (fitted (c .before .before .before .before .before .before .before .is-sound .ensures) (c .before .before .before .before .before .before .if2 .left)) (c .before .before .before .before .before .image-length .ensures) (c .before .before .before .before .if3 .left) (c .before .before .write .ensures)
+past c = search (guards, rooms) depth 9
 
 pub image-write-spec : {M : Type 1} → statement M
+unfolding imageWrite
 image-write-spec =
     tie.close
     (tie.spec
     (λ c κs. search needs)
-    returns
+    (λ c. search (guards, rooms) depth 9)
     (λ c κs. search needs)
-    returns-2
+    (λ c. search (guards, rooms) depth 9)
     (λ c κs. search needs)
-    returns-3
-    write-requires
-    cast-t19
+    (λ c. search (guards, rooms) depth 9)
+    (λ c κs. let f = fit (search) in omega arith)
+    (λ c. let f = fit (search) in omega arith)
     (λ c. search needs)
-    returns-4)
+    (λ c.
+    let k : tie.After-image-length = search in
+    let d : tie.After-write = search in
+    image-given _ _ (k .image-length .ensures) (d .write .ensures) ∙ past (search)))

@@ -1,4 +1,4 @@
--- `bits` meets its contract: a negative weight is 2 ^ 32 more. Assumes nothing.
+-- `bits` meets its contract: a negative weight is 2 ^ 32 more.
 use mathlib.Core.Path.{_≡_}
 use mathlib.Core.Bool.{true, false}
 use native.Mathlib.Omega.{arith}

@@ -1,4 +1,4 @@
--- `signed` meets its contract: bits with the sign set are 2 ^ 32 less. Assumes nothing.
+-- `signed` meets its contract: bits with the sign set are 2 ^ 32 less.
 use native.Mathlib.Omega.{arith}
 use borrow.Author.Needs.{needs}
 use Rattle.layout.proofs.Complement.{low-signed, less-fits, less-narrow, less-signed}

@@ -1,4 +1,4 @@
--- `remove_edge` meets its contract: `guards` finds each test's fact; past the tests the call is its part. Assumes nothing.
+-- `remove_edge` meets its contract: `guards` finds each test's fact; past the tests the call is its part.
 use mathlib.Core.Path.{_≡_, _∙_}
 use native.Mathlib.Omega.{arith}
 use borrow.Author.Needs.{needs}

@@ -1,51 +1,76 @@
--- `take_node` meets its contract. Assumes nothing.
+-- `take_node` meets its contract: stripped, then dropped.
 use native.Mathlib.Omega.{arith}
+use borrow.Author.Needs.{needs}
+use denote.Ref.{now}
 use lib.IntN.{pos}
 use lib.ListN.{getD}
 use mir.Facts.{toZ-ofZ}
 use mir.Syntax.{w32}
+use Rattle.tables.specs.Net.{Net, net}
+use Rattle.tables.proofs.Guards.{FitOf}
 use Rattle.closing.proofs.Closes.{fit-of, node-taken}
-use borrow.Author.Needs.{needs}
 use Rattle.closing.proofs.parts.take_node.Statement.{statement}
 use Rattle.closing.proofs.parts.take_node.Tie as tie
 
+-- the network lent: the columns hold what its counts say
+abbrev lent : tie.Start → Net
+lent s = net (now (s .args .weights)) (now (s .args .heads)) (now (s .args .registers)) (now (s .args .links)) (now (s .args .ends)) (now (s .args .n)) (now (s .args .m))
+
+fit : (c : tie.Start) → FitOf (lent c)
+fit c = fit-of (c .pre .closable)
+
+-- the way back from the stripping
+abbrev begin : tie.After-index → tie.Start
+begin c = search
+
+abbrev row : tie.After-weight → tie.After-index
+row c = search
+
+abbrev read : tie.After-strip → tie.After-weight
+read c = search
+
 slice-copy-out-weight : tie.Need-slice-copy-out-weight
 slice-copy-out-weight c =
-    let p = c .before .before .before .before .before .before .pre .closable in
-    let f = fit-of p in
-    omega (arith, c .index .ensures, p .node, f .n-within)
+    let s = begin c in
+    omega (arith, c .index .ensures, s .pre .closable .node, fit s .n-within)
 
 drop-node-requires : tie.Need-drop-node-requires
 drop-node-requires c κs =
-    let p = c .before .before .before .before .before .before .before .before .before .before .before .before .before .before .before .before .before .before .before .before .before .before .before .before .before .before .before .before .before .before .before .pre .closable in
-    let f = fit-of p in
-    let k = c .before .before .before .before .before .before .before .before .before .before .before .before .before .before .before .before .strip .kept in
-    let s = c .before .before .before .before .before .before .before .before .before .before .before .before .before .before .before .before .strip .ensures in
+    let d : tie.After-strip = search in
+    let s = begin (row (read d)) in
+    let f = fit s in
+    let k = d .strip .kept in
+    let less = d .strip .ensures .fewer in
     record {
       weights-hold = f .n-within;
       heads-hold = omega (arith, k .0, f .heads-agree, f .n-within);
-      links-hold = omega (arith, k .1 .1 .0, f .links-agree, f .m-within, s .fewer);
-      ends-hold = omega (arith, k .1 .1 .1 .0, f .ends-agree, f .m-within, s .fewer);
-      edges-most = omega (arith, f .edges-most, f .m-within, s .fewer);
+      links-hold = omega (arith, k .1 .1 .0, f .links-agree, f .m-within, less);
+      ends-hold = omega (arith, k .1 .1 .1 .0, f .ends-agree, f .m-within, less);
+      edges-most = omega (arith, f .edges-most, f .m-within, less);
       nodes-most = omega (arith, f .nodes-most, f .n-within);
-      node = p .node;
+      node = s .pre .closable .node;
     }
 
 add-t40 : tie.Need-add-t40
 add-t40 c =
-    let p = c .before .before .before .before .before .before .before .before .before .before .before .before .before .before .before .before .before .before .before .before .before .before .before .before .before .before .before .before .before .before .before .before .before .before .before .before .before .before .pre .closable in
-    let f = fit-of p in
-    let s = c .before .before .before .before .before .before .before .before .before .before .before .before .before .before .before .before .before .before .before .before .before .before .before .strip .ensures in
-    record { fits = omega (arith, s .few, s .fewer, c .before .before .before .before .before .before .drop-node .ensures .few, f .edges-most, f .m-within) }
+    let o : tie.After-drop-node = search in
+    let d : tie.After-strip = search in
+    let f = fit (begin (row (read d))) in
+    let s = d .strip .ensures in
+    record { fits = omega (arith, s .few, s .fewer, o .drop-node .ensures .few, f .edges-most, f .m-within) }
 
 returns : tie.Need-returns
 returns c =
-    let w = c .before .before .before .before .before .before .before .before .before .before .before .before .before .before .before .before .before .before .before .before .before .before .before .before .before .before .before .before .before .before .before .before .before .before .before .before .before .before .args .weights .now in
-    let s = c .before .before .before .before .before .before .before .before .before .before .before .before .before .before .before .before .before .before .before .before .before .before .before .strip .ensures in
-    let d = c .before .before .before .before .before .before .drop-node .ensures in
-    let back = toZ-ofZ {w = w32} {z = getD w (c .before .before .before .before .before .before .before .before .before .before .before .before .before .before .before .before .before .before .before .before .before .before .before .before .before .before .before .before .before .before .before .before .index .result) (pos 0)} (record { sfits = c .before .before .before .before .before .before .before .before .before .before .before .before .before .before .before .before .before .before .before .before .before .before .before .before .before .before .before .before .before .before .before .weight .given }) in
-    rw back
-    (node-taken _ _ _ _ _ _ _ _ (s .given) _ _ _ _ _ _ _ _ _ (c .before .before .before .before .before .before .before .before .before .before .before .before .before .before .before .before .before .before .before .before .before .before .before .before .before .before .before .before .before .before .before .before .index .ensures) (s .rest w) (s .count-is) (s .items-are) (d .moved .weights-are) (d .moved .heads-are) (d .ends-are) (d .nodes) (d .rows-are))
+    let o : tie.After-drop-node = search in
+    let d : tie.After-strip = search in
+    let w = read d in
+    let i = row w in
+    let W = begin i .args .weights .now in
+    let s = d .strip .ensures in
+    let e = o .drop-node .ensures in
+    let weight = toZ-ofZ {w = w32} {z = getD W (i .index .result) (pos 0)} (record { sfits = w .weight .given }) in
+    node-taken _ _ _ _ _ _ _ _ (s .given) _ _ _ _ _ _ _ _ _ _ (i .index .ensures) weight (s .rest W) (s .count-is) (s .items-are)
+    (e .moved .weights-are) (e .moved .heads-are) (e .ends-are) (e .nodes) (e .rows-are)
 
 pub take-node-spec : {M : Type 1} → statement M
 take-node-spec =

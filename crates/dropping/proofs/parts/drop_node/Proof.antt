@@ -1,4 +1,4 @@
--- `drop_node` meets its contract. Assumes nothing.
+-- `drop_node` meets its contract: the last node's row moves, and its edges have their ends renumbered.
 use Prim.Native.Nat.{_+_}
 use mathlib.Core.Path.{refl, ap₂}
 use native.Mathlib.Omega.{arith}
@@ -6,14 +6,24 @@ use borrow.Author.Needs.{needs}
 use Rattle.dropping.proofs.parts.drop_node.Statement.{statement}
 use Rattle.dropping.proofs.parts.drop_node.Tie as tie
 
+abbrev begin : tie.After-renumber → tie.Start
+begin c = search
+
 add-result : tie.Need-add-result
-add-result c = record { fits = omega (arith, c .before .before .before .before .before .before .renumber .ensures .few, c .before .before .renumber2 .ensures .few, c .before .before .before .before .before .before .before .before .before .before .before .before .before .before .before .before .before .before .before .before .before .pre .edges-most) }
+add-result c =
+    let after-renumber2 : tie.After-renumber2 = search in
+    let after-renumber : tie.After-renumber = search in
+    let start = begin after-renumber in
+    record { fits = omega (arith, after-renumber .renumber .ensures .few, after-renumber2 .renumber2 .ensures .few, start .pre .edges-most) }
 
 returns : tie.Need-returns
 returns c =
-    let f = c .before .before .before .before .before .before .renumber .ensures in
-    let h = c .before .before .renumber2 .ensures in
-    let p = c .before .before .before .before .before .before .before .before .before .before .before .move-node .ensures in
+    let after-renumber2 : tie.After-renumber2 = search in
+    let after-renumber : tie.After-renumber = search in
+    let after-move-node : tie.After-move-node = search in
+    let f = after-renumber .renumber .ensures in
+    let h = after-renumber2 .renumber2 .ensures in
+    let p = after-move-node .move-node .ensures in
     record {
       nodes = refl;
       moved = record { weights-are = p .weights-are; heads-are = p .heads-are };

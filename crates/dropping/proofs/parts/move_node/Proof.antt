@@ -1,4 +1,4 @@
--- `move_node` meets its contract. Assumes nothing.
+-- `move_node` meets its contract: the row is written over the other, then vacant.
 use lib.IntN.{pos}
 use lib.ListN.{getD}
 use mir.Facts.{toZ-ofZ}
@@ -12,10 +12,15 @@ slice-copy-out-weight c = c .before .pre .last .weights-hold
 
 returns : tie.Need-returns
 returns c =
-    let f = c .before .before .before .before .before .before .before .before .before .before .write-node .ensures in
-    let h = c .before .before .before .write-node2 .ensures in
-    let z = c .before .before .before .before .bare .ensures in
-    let back = toZ-ofZ {w = w32} {z = getD (c .before .before .before .before .before .before .before .before .before .before .before .before .before .before .before .before .before .args .weights .now) (c .before .before .before .before .before .before .before .before .before .before .before .before .before .before .before .before .before .args .b) (pos 0)} (record { sfits = c .before .before .before .before .before .before .before .before .before .before .before .before .before .before .before .weight .given }) in
+    let after-write-node2 : tie.After-write-node2 = search in
+    let after-bare : tie.After-bare = search in
+    let after-write-node : tie.After-write-node = search in
+    let after-weight : tie.After-weight = search in
+    let start : tie.Start = search in
+    let f = after-write-node .write-node .ensures in
+    let h = after-write-node2 .write-node2 .ensures in
+    let z = after-bare .bare .ensures in
+    let back = toZ-ofZ {w = w32} {z = getD (start .args .weights .now) (start .args .b) (pos 0)} (record { sfits = after-weight .weight .given }) in
     record { weights-are = rw (z, f .weights-are, back) at (h .weights-are); heads-are = rw (z, f .heads-are) at (h .heads-are) }
 
 pub move-node-spec : {M : Type 1} → statement M

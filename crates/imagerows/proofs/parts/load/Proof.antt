@@ -1,4 +1,4 @@
--- `parts::load` meets its contract: each column is what its two parts leave. Assumes nothing.
+-- `parts::load` meets its contract: each column is what its two parts leave.
 use borrow.Author.Needs.{needs}
 use Rattle.imagerows.proofs.Served.{loaded-is}
 use Rattle.imagerows.proofs.parts.load.Statement.{statement}
@@ -6,11 +6,16 @@ use Rattle.imagerows.proofs.parts.load.Tie as tie
 
 returns : tie.Need-returns
 returns c =
-    let s = c .before .before .before .before .before .before .before .before .before .before .before .before .before .before .before .before .before .before .before .before .before .before .before .before .before .before .before .before .before .store-nodes .ensures in
-    let v = c .before .before .before .before .before .before .before .before .before .before .before .before .before .before .before .before .before .before .before .before .before .before .before .vacate-nodes .ensures in
-    let t = c .before .before .before .before .before .before .before .before .before .before .before .before .before .before .before .before .store-edges .ensures in
-    let w = c .before .before .before .before .before .before .vacate-edges .ensures in
-    loaded-is _ _ _ _ (s .weights-are) (s .heads-are) (t .registers-are) (t .links-are) (t .ends-are) (v .weights-are) (v .heads-are) (w .registers-are) (w .links-are) (w .ends-are)
+    let vacate-edges : tie.After-vacate-edges = search in
+    let store-edges : tie.After-store-edges = search in
+    let vacate-nodes : tie.After-vacate-nodes = search in
+    let store-nodes : tie.After-store-nodes = search in
+    let s = store-nodes .store-nodes .ensures in
+    let v = vacate-nodes .vacate-nodes .ensures in
+    let t = store-edges .store-edges .ensures in
+    let w = vacate-edges .vacate-edges .ensures in
+    loaded-is _ _ _ _ (s .weights-are) (s .heads-are) (t .registers-are) (t .links-are) (t .ends-are)
+    (v .weights-are) (v .heads-are) (w .registers-are) (w .links-are) (w .ends-are)
 
 pub load-spec : {M : Type 1} → statement M
 load-spec =

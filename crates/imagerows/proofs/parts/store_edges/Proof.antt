@@ -1,4 +1,4 @@
--- `parts::store_edges` meets its contract: after e turns the first e rows are stored. Assumes nothing.
+-- `parts::store_edges` meets its contract: after e turns the first e rows are stored.
 use Prim.Native.Nat.{_≤_, _-_}
 use mathlib.Core.Path.{_≡_, refl, ap, _∙_}
 use native.Mathlib.Omega.{arith}
@@ -26,9 +26,12 @@ loop-holds c = (omega arith, refl, refl, refl, none-stored _ _, none-stored _ _,
 
 loop-again : tie.Need-loop-again Inv-loop μ-loop
 loop-again c =
-    let l = c .before .before .before .before .before .before .before .before .before .before .before .before .loop in
-    let w = c .before .before .before .before .before .before .write-edge in
-    let r = c .before .before .before .before .before .before .before .edge-at .ensures in (
+    let write-edge : tie.After-write-edge Inv-loop μ-loop = search in
+    let edge-at : tie.After-edge-at Inv-loop μ-loop = search in
+    let at-loop : tie.At-loop Inv-loop μ-loop = search in
+    let l = at-loop .loop in
+    let w = write-edge .write-edge in
+    let r = edge-at .edge-at .ensures in (
       omega arith,
       w .kept .0 ∙ l .inv .1,
       w .kept .1 .0 ∙ l .inv .2,
@@ -40,8 +43,9 @@ loop-again c =
 
 returns : tie.Need-returns Inv-loop μ-loop
 returns c =
+    let start : tie.Start Inv-loop μ-loop = search in
     let l = c .before .loop in
-    let e : l .e ≡ c .before .before .before .before .before .before .args .m = omega arith in
+    let e : l .e ≡ start .args .m = omega arith in
     record { registers-are = rw e at (l .inv .4); links-are = rw e at (l .inv .5); ends-are = rw e at (l .inv .6) }
 
 pub store-edges-spec : {M : Type 1} → statement M

@@ -1,4 +1,4 @@
--- `parts::store_nodes` meets its contract: after a turns the first a rows are stored. Assumes nothing.
+-- `parts::store_nodes` meets its contract: after a turns the first a rows are stored.
 use Prim.Native.Nat.{_≤_, _-_}
 use mathlib.Core.Path.{_≡_, refl, ap, _∙_}
 use native.Mathlib.Omega.{arith}
@@ -25,9 +25,12 @@ loop-holds c = (omega arith, refl, refl, none-stored _ _, none-stored _ _)
 
 loop-again : tie.Need-loop-again Inv-loop μ-loop
 loop-again c =
-    let l = c .before .before .before .before .before .before .before .before .loop in
-    let w = c .before .before .before .write-node in
-    let r = c .before .before .before .before .node-at .ensures in (
+    let write-node : tie.After-write-node Inv-loop μ-loop = search in
+    let node-at : tie.After-node-at Inv-loop μ-loop = search in
+    let at-loop : tie.At-loop Inv-loop μ-loop = search in
+    let l = at-loop .loop in
+    let w = write-node .write-node in
+    let r = node-at .node-at .ensures in (
       omega arith,
       w .kept .0 ∙ l .inv .1,
       w .kept .1 .0 ∙ l .inv .2,
@@ -37,8 +40,9 @@ loop-again c =
 
 returns : tie.Need-returns Inv-loop μ-loop
 returns c =
+    let start : tie.Start Inv-loop μ-loop = search in
     let l = c .before .loop in
-    let e : l .a ≡ c .before .before .before .before .args .n = omega arith in
+    let e : l .a ≡ start .args .n = omega arith in
     record { weights-are = rw e at (l .inv .3); heads-are = rw e at (l .inv .4) }
 
 pub store-nodes-spec : {M : Type 1} → statement M

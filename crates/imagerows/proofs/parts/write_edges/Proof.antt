@@ -1,4 +1,4 @@
--- `parts::write_edges` meets its contract: after e turns the bytes of the first e rows stand there. Assumes nothing.
+-- `parts::write_edges` meets its contract: after e turns the bytes of the first e rows stand there.
 use Prim.Native.Nat.{_≤_, _-_}
 use mathlib.Core.Path.{_≡_, refl, ap, _∙_}
 use native.Mathlib.Omega.{arith}
@@ -26,17 +26,24 @@ loop-holds c = (omega arith, refl, none-written _ _ _)
 
 loop-again : tie.Need-loop-again Inv-loop μ-loop
 loop-again c =
-    let l = c .before .before .before .before .before .before .loop in
-    let a = c .before .before .before .before .before .before .before .before .before .before .before .args in (
+    let put-edge : tie.After-put-edge Inv-loop μ-loop = search in
+    let edge-row : tie.After-edge-row Inv-loop μ-loop = search in
+    let at-loop : tie.At-loop Inv-loop μ-loop = search in
+    let start : tie.Start Inv-loop μ-loop = search in
+    let l = at-loop .loop in
+    let a = start .args in
+    let row = edgeOf (now (a .registers)) (now (a .links)) (now (a .ends)) in (
       omega arith,
-      c .before .before .put-edge .kept .0 ∙ l .inv .1,
-      row-written (λ i. edgeBytes (edgeOf (now (a .registers)) (now (a .links)) (now (a .ends)) i)) 20 (λ i. edge-length (edgeOf (now (a .registers)) (now (a .links)) (now (a .ends)) i)) (nodePlace (a .n)) (l .e) _ _ refl (omega arith) (l .inv .2) (ap edgeBytes (c .before .before .before .edge-row .ensures)) (c .before .before .put-edge .ensures),
+      put-edge .put-edge .kept .0 ∙ l .inv .1,
+      row-written (λ i. edgeBytes (row i)) 20 (λ i. edge-length (row i)) (nodePlace (a .n)) (l .e) _ _ refl (omega arith)
+          (l .inv .2) (ap edgeBytes (edge-row .edge-row .ensures)) (put-edge .put-edge .ensures),
     )
 
 returns : tie.Need-returns Inv-loop μ-loop
 returns c =
+    let start : tie.Start Inv-loop μ-loop = search in
     let l = c .before .loop in
-    let e : l .e ≡ c .before .before .before .before .before .before .args .m = omega arith in
+    let e : l .e ≡ start .args .m = omega arith in
     rw e at (l .inv .2)
 
 pub write-edges-spec : {M : Type 1} → statement M

@@ -1,4 +1,4 @@
--- `parts::write_nodes` meets its contract: after a turns the bytes of the first a rows stand there. Assumes nothing.
+-- `parts::write_nodes` meets its contract: after a turns the bytes of the first a rows stand there.
 use Prim.Native.Nat.{_≤_, _-_}
 use mathlib.Core.Path.{_≡_, refl, ap, _∙_}
 use native.Mathlib.Omega.{arith}
@@ -26,17 +26,24 @@ loop-holds c = (omega arith, refl, none-written _ _ _)
 
 loop-again : tie.Need-loop-again Inv-loop μ-loop
 loop-again c =
-    let l = c .before .before .before .before .before .before .loop in
-    let a = c .before .before .before .before .before .before .before .before .before .args in (
+    let put-node : tie.After-put-node Inv-loop μ-loop = search in
+    let node-row : tie.After-node-row Inv-loop μ-loop = search in
+    let at-loop : tie.At-loop Inv-loop μ-loop = search in
+    let start : tie.Start Inv-loop μ-loop = search in
+    let l = at-loop .loop in
+    let a = start .args in
+    let row = nodeOf (now (a .weights)) (now (a .heads)) in (
       omega arith,
-      c .before .before .put-node .kept .0 ∙ l .inv .1,
-      row-written (λ i. nodeBytes (nodeOf (now (a .weights)) (now (a .heads)) i)) 12 (λ i. node-length (nodeOf (now (a .weights)) (now (a .heads)) i)) headBytes (l .a) _ _ refl (omega arith) (l .inv .2) (ap nodeBytes (c .before .before .before .node-row .ensures)) (c .before .before .put-node .ensures),
+      put-node .put-node .kept .0 ∙ l .inv .1,
+      row-written (λ i. nodeBytes (row i)) 12 (λ i. node-length (row i)) headBytes (l .a) _ _ refl (omega arith)
+          (l .inv .2) (ap nodeBytes (node-row .node-row .ensures)) (put-node .put-node .ensures),
     )
 
 returns : tie.Need-returns Inv-loop μ-loop
 returns c =
+    let start : tie.Start Inv-loop μ-loop = search in
     let l = c .before .loop in
-    let e : l .a ≡ c .before .before .before .before .args .n = omega arith in
+    let e : l .a ≡ start .args .n = omega arith in
     rw e at (l .inv .2)
 
 pub write-nodes-spec : {M : Type 1} → statement M

@@ -1,4 +1,4 @@
--- `parts::edge_at` meets its contract: word by word. Assumes nothing.
+-- `parts::edge_at` meets its contract: word by word.
 use borrow.Author.Needs.{needs}
 use Rattle.layout.specs.Layout.{edgeAt}
 use Rattle.layout.proofs.parts.edge_at.Statement.{statement}
@@ -6,7 +6,11 @@ use Rattle.layout.proofs.parts.edge_at.Tie as tie
 
 returns : tie.Need-returns
 unfolding edgeAt
-returns c = rw (c .before .before .before .before .word .ensures, c .before .before .before .word2 .ensures, c .before .before .word3 .ensures, c .before .word4 .ensures, c .word5 .ensures)
+returns c =
+    let word3 : tie.After-word3 = search in
+    let word2 : tie.After-word2 = search in
+    let word : tie.After-word = search in
+    rw (word .word .ensures, word2 .word2 .ensures, word3 .word3 .ensures, c .before .word4 .ensures, c .word5 .ensures)
 
 pub edge-at-spec : {M : Type 1} → statement M
 edge-at-spec =

@@ -1,4 +1,4 @@
--- `parts::half` meets its contract: the number of two bytes. Assumes nothing.
+-- `parts::half` meets its contract: the number of two bytes.
 use Prim.Native.Nat.{ℕ, _+_, _*_}
 use mathlib.Core.Path.{ap₂}
 use borrow.Author.Needs.{needs}
@@ -7,7 +7,10 @@ use Rattle.layout.proofs.parts.half.Statement.{statement}
 use Rattle.layout.proofs.parts.half.Tie as tie
 
 returns : tie.Need-returns
-returns c = rw (half-at _ _ (c .before .before .before .before .before .pre)) (ap₂ (λ (x y : ℕ). x + 256 * y) (c .before .before .wide .ensures .0) (c .wide2 .ensures .0))
+returns c =
+    let wide : tie.After-wide = search in
+    let start : tie.Start = search in
+    rw (half-at _ _ (start .pre)) (ap₂ (λ (x y : ℕ). x + 256 * y) (wide .wide .ensures .0) (c .wide2 .ensures .0))
 
 pub half-spec : {M : Type 1} → statement M
 half-spec =

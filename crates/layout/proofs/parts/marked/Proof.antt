@@ -1,4 +1,4 @@
--- `parts::marked` meets its contract: each `return` rewrites with the tests that led there. Assumes nothing.
+-- `parts::marked` meets its contract: each `return` rewrites with the tests that led there.
 use borrow.Author.Tests.{eq-eqb, ne-eqb}
 use borrow.Author.Needs.{needs}
 use Rattle.layout.specs.Layout.{marked}
@@ -11,11 +11,15 @@ returns c = rw (ne-eqb _ _ (c .if1 .taken))
 
 returns-2 : tie.Need-returns-2
 unfolding marked
-returns-2 c = rw (eq-eqb _ _ (c .before .before .if1 .left), ne-eqb _ _ (c .if2 .taken))
+returns-2 c =
+    let else1 : tie.Else1 = search in
+    rw (eq-eqb _ _ (else1 .if1 .left), ne-eqb _ _ (c .if2 .taken))
 
 returns-3 : tie.Need-returns-3
 unfolding marked
-returns-3 c = rw (eq-eqb _ _ (c .before .before .before .if1 .left), eq-eqb _ _ (c .before .if2 .left))
+returns-3 c =
+    let else1 : tie.Else1 = search in
+    rw (eq-eqb _ _ (else1 .if1 .left), eq-eqb _ _ (c .before .if2 .left))
 
 pub marked-spec : {M : Type 1} → statement M
 marked-spec =

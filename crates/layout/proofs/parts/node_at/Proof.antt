@@ -1,4 +1,4 @@
--- `parts::node_at` meets its contract: word by word. Assumes nothing.
+-- `parts::node_at` meets its contract: word by word.
 use borrow.Author.Needs.{needs}
 use mir.Syntax.{w32}
 use mir.Facts.{toZ-ofZ}
@@ -8,7 +8,10 @@ use Rattle.layout.proofs.parts.node_at.Tie as tie
 
 returns : tie.Need-returns
 unfolding nodeAt
-returns c = rw (toZ-ofZ {w = w32} (record { sfits = c .before .before .signed .ok }), c .before .before .signed .ensures, c .before .before .before .word .ensures, c .before .word2 .ensures, c .word3 .ensures)
+returns c =
+    let signed : tie.After-signed = search in
+    let word : tie.After-word = search in
+    rw (toZ-ofZ {w = w32} (record { sfits = signed .signed .ok }), signed .signed .ensures, word .word .ensures, c .before .word2 .ensures, c .word3 .ensures)
 
 pub node-at-spec : {M : Type 1} → statement M
 node-at-spec =

@@ -1,4 +1,4 @@
--- `parts::put_half` meets its contract: two stores. Assumes nothing.
+-- `parts::put_half` meets its contract: two stores.
 use native.Mathlib.Omega.{arith}
 use borrow.Author.Needs.{needs}
 use lib.ListN.{length-set}

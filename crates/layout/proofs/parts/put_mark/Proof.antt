@@ -1,4 +1,4 @@
--- `parts::put_mark` meets its contract: three stores. Assumes nothing.
+-- `parts::put_mark` meets its contract: three stores.
 use native.Mathlib.Omega.{arith}
 use borrow.Author.Needs.{needs}
 use lib.ListN.{length-set}

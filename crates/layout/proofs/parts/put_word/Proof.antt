@@ -1,4 +1,4 @@
--- `parts::put_word` meets its contract: four stores. Assumes nothing.
+-- `parts::put_word` meets its contract: four stores.
 use native.Mathlib.Omega.{arith}
 use borrow.Author.Needs.{needs}
 use lib.ListN.{length-set}
@@ -16,7 +16,10 @@ slice-write-bytes-4 : tie.Need-slice-write-bytes-4
 slice-write-bytes-4 c = simp length-set (omega arith)
 
 returns : tie.Need-returns
-returns c = word-stored _ _ _ (search needs) (c .before .before .before .low .ensures) (c .before .before .low2 .ensures) (c .before .low3 .ensures) (c .low4 .ensures)
+returns c =
+    let low2 : tie.After-low2 = search in
+    let low : tie.After-low = search in
+    word-stored _ _ _ (search needs) (low .low .ensures) (low2 .low2 .ensures) (c .before .low3 .ensures) (c .low4 .ensures)
 
 pub put-word-spec : {M : Type 1} → statement M
 put-word-spec =

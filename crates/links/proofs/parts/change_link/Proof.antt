@@ -1,6 +1,6 @@
 -- `change_link` meets its contract. The loop's invariant: `link` stands at some spot, is not e, and to seek on from there with the rows left gives
--- what the whole search gives; the columns are those at entry until the loop is left. Assumes nothing.
-use Prim.Native.Nat.{ℕ, _-_, _^_, _≤_, _<_}
+-- what the whole search gives; the columns are those at entry until the loop is left.
+use Prim.Native.Nat.{ℕ, _+_, _-_, _^_, _≤_, _<_}
 use mathlib.Core.Path.{_≡_, refl, sym, _∙_}
 use mathlib.Core.List.{List}
 use native.Mathlib.Nat.{sub-zero}
@@ -28,10 +28,21 @@ Inv-loop heads links₀ m k first e v link₀ rows₀ links link rows = Going he
 abbrev μ-loop : tie.MeasureT-loop
 μ-loop heads links₀ m k first e v link₀ rows₀ links link rows = m - rows
 
+-- a row is read: rows are left
+abbrev turn : tie.Else3 Inv-loop μ-loop → tie.At-loop Inv-loop μ-loop
+turn c = search
+
+rows-left : (c : tie.Else3 Inv-loop μ-loop) → let s : tie.Start Inv-loop μ-loop = search in turn c .loop .rows < s .args .m
+rows-left c = omega arith
+
+one-more : (c : tie.Else3 Inv-loop μ-loop) → let s : tie.Start Inv-loop μ-loop = search in turn c .loop .rows + 1 ≤ s .args .m
+one-more c = omega arith
+
 returns : tie.Need-returns Inv-loop μ-loop
 unfolding headsAt linksAt
 returns c =
-    let p = c .before .before .before .before .before .pre in
+    let start : tie.Start Inv-loop μ-loop = search in
+    let p = start .pre in
     record {
       answer-is = sym (seek-found _ _ _ (Head _) 0 (p .first-is) _ (c .before .if1 .taken));
       heads-are = rw (c .index .ensures);
@@ -40,61 +51,77 @@ returns c =
 
 loop-holds : tie.Need-loop-holds Inv-loop μ-loop
 loop-holds c =
-    (record { few = omega arith; wide = c .before .before .before .before .fits .first .fits; other = c .if1 .left; so-far = λ a q. (Head a, q, rw sub-zero) }, refl)
+    let start : tie.Start Inv-loop μ-loop = search in
+    (record { few = omega arith; wide = start .fits .first .fits; other = c .if1 .left; so-far = λ a q. (Head a, q, rw sub-zero) }, refl)
 
 slice-read-next : tie.Need-slice-read-next Inv-loop μ-loop
 slice-read-next c =
-    let l = c .before .before .before .before .loop .inv .1 in
+    let at-loop : tie.At-loop Inv-loop μ-loop = search in
+    let l = at-loop .loop .inv .1 in
     rw (l, c .before .index2 .ensures) (omega arith)
 
 slice-write-links : tie.Need-slice-write-links Inv-loop μ-loop
 slice-write-links c =
-    let l = c .before .before .before .before .before .before .loop .inv .1 in
-    rw (l, c .before .before .before .index2 .ensures) (omega arith)
+    let after-index2 : tie.After-index2 Inv-loop μ-loop = search in
+    let at-loop : tie.At-loop Inv-loop μ-loop = search in
+    let l = at-loop .loop .inv .1 in
+    rw (l, after-index2 .index2 .ensures) (omega arith)
 
 loop-again : tie.Need-loop-again Inv-loop μ-loop
 loop-again c =
-    let i = c .before .before .before .before .before .before .loop .inv .0 in
-    let l = c .before .before .before .before .before .before .loop .inv .1 in
-    rw (c .before .before .before .index2 .ensures) (
+    let after-slice-known3 : tie.After-slice-known3 Inv-loop μ-loop = search in
+    let after-index2 : tie.After-index2 Inv-loop μ-loop = search in
+    let else3 : tie.Else3 Inv-loop μ-loop = search in
+    let at-loop : tie.At-loop Inv-loop μ-loop = search in
+    let i = at-loop .loop .inv .0 in
+    let l = at-loop .loop .inv .1 in
+    rw (after-index2 .index2 .ensures) (
       record {
-        few = omega arith;
-        wide = c .before .before .slice-known3 .given _ .fits;
-        other = λ h. omega (arith, h, rw (c .before .before .before .index2 .ensures) at (c .if4 .left));
+        few = one-more else3;
+        wide = after-slice-known3 .slice-known3 .given _ .fits;
+        other = λ h. omega (arith, h, rw (after-index2 .index2 .ensures) at (c .if4 .left));
         so-far =
             λ a q.
             (let w = i .so-far a q in
-            (After (c .before .before .before .before .before .before .loop .link), rw l, sym (seek-step _ _ _ _ _ (w .1) (i .other) (c .before .before .before .before .if3 .left) (omega arith)) ∙ w .2));
+            (After (at-loop .loop .link), rw l, sym (seek-step _ _ _ _ _ (w .1) (i .other) (else3 .if3 .left) (rows-left else3)) ∙ w .2));
       },
       l,
     )
 
 returns-2 : tie.Need-returns-2 Inv-loop μ-loop
 returns-2 c =
+    let start : tie.Start Inv-loop μ-loop = search in
     let i = c .before .loop .inv .0 in
-    let w = i .so-far _ (c .before .before .before .before .before .before .pre .first-is) in
+    let w = i .so-far _ (start .pre .first-is) in
     record { answer-is = sym (seek-spent _ _ _ _ _ (w .1) (i .other) (c .if2 .taken)) ∙ w .2; heads-are = refl; links-are = c .before .loop .inv .1 }
 
 returns-3 : tie.Need-returns-3 Inv-loop μ-loop
 returns-3 c =
-    let i = c .before .before .loop .inv .0 in
-    let w = i .so-far _ (c .before .before .before .before .before .before .before .pre .first-is) in
-    record { answer-is = sym (seek-past _ _ _ _ _ (w .1) _ (i .other) (c .if3 .taken)) ∙ w .2; heads-are = refl; links-are = c .before .before .loop .inv .1 }
+    let at-loop : tie.At-loop Inv-loop μ-loop = search in
+    let start : tie.Start Inv-loop μ-loop = search in
+    let i = at-loop .loop .inv .0 in
+    let w = i .so-far _ (start .pre .first-is) in
+    record { answer-is = sym (seek-past _ _ _ _ _ (w .1) _ (i .other) (c .if3 .taken)) ∙ w .2; heads-are = refl; links-are = at-loop .loop .inv .1 }
 
 same-length-4 : tie.Need-same-length-4 Inv-loop μ-loop
 same-length-4 c =
-    let l = c .before .before .before .before .before .before .loop .inv .1 in
+    let at-loop : tie.At-loop Inv-loop μ-loop = search in
+    let l = at-loop .loop .inv .1 in
     simp length-set (rw l)
 
 returns-4 : tie.Need-returns-4 Inv-loop μ-loop
 unfolding headsAt linksAt
 returns-4 c =
-    let i = c .before .before .before .before .before .before .loop .inv .0 in
-    let l = c .before .before .before .before .before .before .loop .inv .1 in
-    let w = i .so-far _ (c .before .before .before .before .before .before .before .before .before .before .before .pre .first-is) in
-    let x = c .before .before .before .index2 .ensures in
+    let after-index2 : tie.After-index2 Inv-loop μ-loop = search in
+    let else3 : tie.Else3 Inv-loop μ-loop = search in
+    let at-loop : tie.At-loop Inv-loop μ-loop = search in
+    let start : tie.Start Inv-loop μ-loop = search in
+    let i = at-loop .loop .inv .0 in
+    let l = at-loop .loop .inv .1 in
+    let w = i .so-far _ (start .pre .first-is) in
+    let x = after-index2 .index2 .ensures in
     record {
-      answer-is = sym (seek-found _ _ _ _ _ (rw (x, l)) _ (c .if4 .taken)) ∙ sym (seek-step _ _ _ _ _ (w .1) (i .other) (c .before .before .before .before .if3 .left) (omega arith)) ∙ w .2;
+      answer-is = sym (seek-found _ _ _ _ _ (rw (x, l)) _ (c .if4 .taken)) ∙ sym (seek-step _ _ _ _ _ (w .1) (i .other) (else3 .if3 .left) (rows-left else3)) ∙ w .2;
       heads-are = refl;
       links-are = rw (x, l);
     }

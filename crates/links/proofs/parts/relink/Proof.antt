@@ -1,39 +1,22 @@
--- `relink` meets its contract: each arm is given which spot it has. Assumes nothing.
-use Prim.Native.Nat.{_+_, _*_, _<_}
+-- `relink` meets its contract: each arm is given which spot it has.
+use Prim.Native.Nat.{_<_}
 use mathlib.Core.Path.{refl}
 use native.Mathlib.Omega.{arith}
 use lib.ListN.{length}
+use Rattle.tables.specs.Net.{nodeCell, edgeCell}
 use Rattle.links.specs.Links.{headsAt, linksAt}
 use Rattle.links.specs.Parts.{Place}
 use borrow.Author.Needs.{needs}
 use Rattle.links.proofs.parts.relink.Statement.{statement}
 use Rattle.links.proofs.parts.relink.Tie as tie
 
-in-heads : (c : tie.After-known-told) → 2 * c .before .spot .given .0 .0 + c .before .before .before .args .k < length (c .before .before .before .args .heads .now)
+in-heads : (c : tie.After-known-told) → let s : tie.Start = search in nodeCell (c .before .spot .given .0 .0) (s .args .k) < length (s .args .heads .now)
 unfolding Place
-in-heads c = rw (c .before .spot .given .1) at (c .before .before .before .pre)
+in-heads c = let s : tie.Start = search in rw (c .before .spot .given .1) at (s .pre)
 
-in-links : (c : tie.After-known-told2) → 2 * c .before .spot2 .given .0 .0 + c .before .before .before .args .k < length (c .before .before .before .args .links .now)
+in-links : (c : tie.After-known-told2) → let s : tie.Start = search in edgeCell (c .before .spot2 .given .0 .0) (s .args .k) < length (s .args .links .now)
 unfolding Place
-in-links c = rw (c .before .spot2 .given .1) at (c .before .before .before .pre)
-
-add-heads : tie.Need-add-heads
-add-heads c = omega (arith, in-heads c)
-
-mul-heads-2 : tie.Need-mul-heads-2
-mul-heads-2 c = omega (arith, in-heads c)
-
-slice-write-heads : tie.Need-slice-write-heads
-slice-write-heads c = in-heads c
-
-add-links : tie.Need-add-links
-add-links c = omega (arith, in-links c)
-
-mul-links-2 : tie.Need-mul-links-2
-mul-links-2 c = omega (arith, in-links c)
-
-slice-write-links : tie.Need-slice-write-links
-slice-write-links c = in-links c
+in-links c = let s : tie.Start = search in rw (c .before .spot2 .given .1) at (s .pre)
 
 returns : tie.Need-returns
 unfolding headsAt linksAt
@@ -50,15 +33,15 @@ relink-spec =
     (λ c. search needs)
     (λ c. search needs)
     (λ c. search needs)
-    add-heads
-    mul-heads-2
-    slice-write-heads
+    (λ c. omega (arith, in-heads c))
+    (λ c. omega (arith, in-heads c))
+    (λ c. in-heads c)
     (λ c. search needs)
     (λ c. search needs)
     (λ c. search needs)
-    add-links
-    mul-links-2
-    slice-write-links
+    (λ c. omega (arith, in-links c))
+    (λ c. omega (arith, in-links c))
+    (λ c. in-links c)
     (λ c. search needs)
     returns
     (λ c. search needs)

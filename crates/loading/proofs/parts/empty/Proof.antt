@@ -1,4 +1,4 @@
--- `parts::empty` meets its contract: each column is what its part leaves. Assumes nothing.
+-- `parts::empty` meets its contract: each column is what its part leaves.
 use borrow.Author.Needs.{needs}
 use Rattle.loading.proofs.Served.{vacated-is}
 use Rattle.loading.proofs.parts.empty.Statement.{statement}
@@ -6,8 +6,10 @@ use Rattle.loading.proofs.parts.empty.Tie as tie
 
 returns : tie.Need-returns
 returns c =
-    let v = c .before .before .before .before .before .before .before .before .before .before .before .before .before .vacate-nodes .ensures in
-    let w = c .before .before .before .before .before .before .vacate-edges .ensures in
+    let vacate-edges : tie.After-vacate-edges = search in
+    let vacate-nodes : tie.After-vacate-nodes = search in
+    let v = vacate-nodes .vacate-nodes .ensures in
+    let w = vacate-edges .vacate-edges .ensures in
     vacated-is _ (v .weights-are) (v .heads-are) (w .registers-are) (w .links-are) (w .ends-are)
 
 pub empty-spec : {M : Type 1} → statement M

@@ -1,4 +1,4 @@
--- `parts::is_sound` meets its contract, by the answer of the check. Assumes nothing.
+-- `parts::is_sound` meets its contract, by the answer of the check.
 use borrow.Author.Needs.{needs}
 use Rattle.loading.proofs.parts.is_sound.Statement.{statement}
 use Rattle.loading.proofs.parts.is_sound.Tie as tie

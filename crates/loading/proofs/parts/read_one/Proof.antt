@@ -1,4 +1,4 @@
--- `parts::read_one` meets its contract: `guards` finds each test's fact; past the tests the parts' columns are the definition's. Assumes nothing.
+-- `parts::read_one` meets its contract: `guards` finds each test's fact; past the tests the parts' columns are the definition's.
 use Prim.{Unit}
 use mathlib.Core.Path.{_≡_, _∙_}
 use borrow.Author.Needs.{needs}

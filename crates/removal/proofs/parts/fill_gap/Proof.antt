@@ -1,5 +1,4 @@
--- `fill_gap` meets its contract. Assumes nothing.
-use mathlib.Core.Path.{sym, _∙_}
+-- `fill_gap` meets its contract: the last row is lost, or moves.
 use native.Mathlib.Omega.{arith}
 use Rattle.links.proofs.Hits.{place-kept}
 use Rattle.removal.proofs.Reaches.{reached}
@@ -8,33 +7,51 @@ use borrow.Author.Needs.{needs}
 use Rattle.removal.proofs.parts.fill_gap.Statement.{statement}
 use Rattle.removal.proofs.parts.fill_gap.Tie as tie
 
+-- the way back from where the last row is sought
+abbrev begin : tie.After-index → tie.Start
+begin c = search
+
+abbrev read : tie.After-change-edge-links → tie.After-index
+read c = search
+
+abbrev sought : tie.After-more → tie.After-change-edge-links
+sought c = search
+
 lead-requires : tie.Need-lead-requires
 lead-requires c κs =
-    let k = c .before .before .before .before .before .before .before .before .change-edge-links .kept in
-    let p = c .before .before .before .before .before .before .before .before .before .before .before .before .before .before .before .before .before .before .before .pre .places in
+    let d : tie.After-change-edge-links = search in
+    let k = d .change-edge-links .kept in
+    let p = begin (read d) .pre .places in
     record { outgoing = place-kept 0 _ (k .0) (k .1 .0) (p .outgoing); incoming = place-kept 1 _ (k .0) (k .1 .0) (p .incoming) }
 
 add-t40 : tie.Need-add-t40
 add-t40 c =
-    let p = c .before .before .before .before .before .before .before .before .before .before .before .before .before .before .before .before .before .before .before .before .before .before .before .before .before .before .before .before .pre in
-    let w = reached _ _ _ _ _ _ _ _ _ (sym (c .before .before .before .before .before .before .before .before .before .before .before .before .before .before .before .before .before .change-edge-links .ensures .answer-is) ∙ c .before .before .before .before .before .before .before .before .before .before .before .more .given .1) in
+    let m : tie.After-more = search in
+    let d = sought m in
+    let p = begin (read d) .pre in
+    let w = reached _ _ _ _ _ _ _ _ _ _ (d .change-edge-links .ensures .answer-is) (m .more .given .1) in
     record { fits = omega (arith, w .few, p .few, p .removable .within .edges-most) }
 
 returns : tie.Need-returns
 returns c =
     λ W.
-    let f = c .before .before .before .before .before .before .before .before .before .before .before .before .before .change-edge-links .ensures in
-    let h = c .before .before .before .before .lead .ensures in
-    let z = c .before .before .before .before .before .before .before .enum-told .given .1 in
-    last-lost W _ _ _ _ _ _ _ _ _ _ _ _ (sym (f .answer-is) ∙ z) (rw (rw z at (f .heads-are)) at (h .heads-are)) (rw (rw z at (f .links-are)) at (h .links-are))
+    let o : tie.After-lead = search in
+    let l : tie.After-enum-told = search in
+    let d : tie.After-change-edge-links = search in
+    let f = d .change-edge-links .ensures in
+    let h = o .lead .ensures in
+    last-lost W _ _ _ _ _ _ _ _ _ _ _ _ _ (f .answer-is) (f .heads-are) (f .links-are) _ _ (l .enum-told .given .1) (h .heads-are) (h .links-are)
 
 returns-2 : tie.Need-returns-2
 returns-2 c =
     λ W.
-    let f = c .before .before .before .before .before .before .before .before .before .before .before .before .before .before .before .before .before .change-edge-links .ensures in
-    let h = c .before .before .before .before .before .before .move-last .ensures in
-    let z = c .before .before .before .before .before .before .before .before .before .before .before .more .given .1 in
-    last-moves W _ _ _ _ _ _ _ _ _ _ _ _ _ _ _ _ _ _ _ (c .before .before .before .before .before .before .before .before .before .before .before .before .before .before .before .before .before .before .before .before .before .before .index .ensures) (sym (f .answer-is) ∙ z) (rw z at (f .heads-are)) (rw z at (f .links-are)) (h .registers-are) (h .links-are) (h .ends-are)
+    let o : tie.After-move-last = search in
+    let m : tie.After-more = search in
+    let d = sought m in
+    let f = d .change-edge-links .ensures in
+    let h = o .move-last .ensures in
+    last-moves W _ _ _ _ _ _ _ _ _ _ _ _ _ (f .answer-is) (f .heads-are) (f .links-are) _ _ _ _ _ _ _ (m .more .given .1) (read d .index .ensures)
+    (h .registers-are) (h .links-are) (h .ends-are)
 
 pub fill-gap-spec : {M : Type 1} → statement M
 fill-gap-spec =

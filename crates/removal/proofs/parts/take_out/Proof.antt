@@ -1,16 +1,27 @@
--- `take_out` meets its contract. Assumes nothing.
-use mathlib.Core.Path.{sym, _∙_}
+-- `take_out` meets its contract: an edge that is lost, that is the last row, or whose place the last row takes.
 use native.Mathlib.Omega.{arith}
 use Rattle.removal.proofs.Reaches.{reached, places-kept, removable-kept}
-use Rattle.removal.proofs.Ways.{not-found, is-found, last-goes, gap-filled}
+use Rattle.removal.proofs.Ways.{not-found, last-goes, gap-filled}
 use borrow.Author.Needs.{needs}
 use Rattle.removal.proofs.parts.take_out.Statement.{statement}
 use Rattle.removal.proofs.parts.take_out.Tie as tie
 
+-- the way back from where the edge is found
+abbrev begin : tie.After-index → tie.Start
+begin c = search
+
+abbrev row : tie.After-change-edge-links → tie.After-index
+row c = search
+
+abbrev sought : tie.After-s → tie.After-change-edge-links
+sought c = search
+
 write-edge-requires : tie.Need-write-edge-requires
 write-edge-requires c κs =
-    let k = c .before .before .before .before .before .before .before .before .before .before .before .before .before .before .before .before .change-edge-links .kept in
-    let R = c .before .before .before .before .before .before .before .before .before .before .before .before .before .before .before .before .before .before .before .before .before .before .before .before .before .before .before .before .pre in
+    let s : tie.After-s = search in
+    let d = sought s in
+    let k = d .change-edge-links .kept in
+    let R = begin (row d) .pre in
     let q = c .before .index3 .ensures in
     record {
       registers-hold = omega (arith, R .registers-hold, R .within .edge, q);
@@ -21,41 +32,50 @@ write-edge-requires c κs =
 returns : tie.Need-returns
 returns c =
     λ W.
-    let f = c .before .before .before .before .before .before .before .before .before .before .before .before .before .before .before .before .before .before .before .before .before .before .before .change-edge-links .ensures in
-    let z = c .before .before .before .before .before .before .before .before .before .before .before .before .before .before .before .before .before .s .given .1 in
-    let h = c .before .before .before .before .before .before .write-edge .ensures in
-    let i = c .before .before .before .before .before .before .before .before .index3 .ensures in
-    let v = c .before .before .before .before .before .before .before .vacant .ensures in
-    is-found _ _ _ _ _ _ (sym (f .answer-is) ∙ z)
-    (last-goes W _ _ _ _ _ _ _ _ _ _ _ _ _ (c .before .before .before .before .before .before .before .before .before .before .before .before .before .before .before .before .before .before .before .before .before .before .before .before .before .before .before .before .before .index .ensures) (rw z at (f .heads-are)) (rw z at (f .links-are)) _ _ _ _ (c .before .before .before .before .before .before .before .before .before .before .before .before .before .index2 .ensures) (c .before .before .before .before .before .before .before .before .before .before .before .before .before .before .if1 .taken) (rw (i, v) at (h .registers-are)) (rw (i, v) at (h .links-are)) (rw (i, v) at (h .ends-are)))
+    let o : tie.After-write-edge = search in
+    let v : tie.After-vacant = search in
+    let j : tie.After-index3 = search in
+    let i : tie.After-index2 = search in
+    let l : tie.Then1 = search in
+    let s : tie.After-s = search in
+    let d = sought s in
+    let f = d .change-edge-links .ensures in
+    let h = o .write-edge .ensures in
+    last-goes W _ _ _ _ _ _ _ _ (row d .index .ensures) _ _ _ (f .answer-is) (f .heads-are) (f .links-are) _ _ _ (s .s .given .1) _ _ _ _ _ _
+    (i .index2 .ensures) (l .if1 .taken) (j .index3 .ensures) (v .vacant .ensures) (h .registers-are) (h .links-are) (h .ends-are)
 
 fill-gap-requires : tie.Need-fill-gap-requires
 fill-gap-requires c κs =
-    let k = c .before .before .before .before .before .before .before .before .before .before .before .before .before .before .change-edge-links .kept in
-    let p = c .before .before .before .before .before .before .before .before .before .before .before .before .before .before .before .before .before .before .before .before .before .before .before .before .before .before .pre in
-    let w = reached _ _ _ _ _ _ _ _ _ (sym (c .before .before .before .before .before .before .before .before .before .before .before .before .before .before .change-edge-links .ensures .answer-is) ∙ c .before .before .before .before .before .before .before .before .s .given .1) in
+    let l : tie.Else1 = search in
+    let s : tie.After-s = search in
+    let d = sought s in
+    let k = d .change-edge-links .kept in
+    let p = begin (row d) .pre in
+    let w = reached _ _ _ _ _ _ _ _ _ _ (d .change-edge-links .ensures .answer-is) (s .s .given .1) in
     record {
       removable = removable-kept (k .0) (k .1 .0) p;
       places = places-kept (p .within) w (k .0) (k .1 .0);
-      not-last = omega (arith, c .before .before .before .before .before .if1 .left, p .within .edge);
+      not-last = omega (arith, l .if1 .left, p .within .edge);
       few = w .few;
     }
 
 returns-2 : tie.Need-returns-2
 returns-2 c =
     λ W.
-    let f = c .before .before .before .before .before .before .change-edge-links .ensures in
-    let z = c .enum-told .given .1 in
-    rw (rw z at (f .heads-are), rw z at (f .links-are)) (not-found _ _ (sym (f .answer-is) ∙ z))
+    let d : tie.After-change-edge-links = search in
+    let f = d .change-edge-links .ensures in
+    not-found W _ _ _ _ _ _ _ _ (row d .index .ensures) _ _ _ (f .answer-is) (f .heads-are) (f .links-are) (c .enum-told .given .1)
 
 returns-3 : tie.Need-returns-3
 returns-3 c =
     λ W.
-    let f = c .before .before .before .before .before .before .before .before .before .before .before .before .before .before .before .before .before .before .before .before .before .before .before .change-edge-links .ensures in
-    let z = c .before .before .before .before .before .before .before .before .before .before .before .before .before .before .before .before .before .s .given .1 in
-    let w = reached _ _ _ _ _ _ _ _ _ (sym (f .answer-is) ∙ z) in
-    is-found _ _ _ _ _ _ (sym (f .answer-is) ∙ z)
-    (gap-filled W _ _ _ _ _ _ _ _ _ _ _ _ _ (c .before .before .before .before .before .before .before .before .before .before .before .before .before .before .before .before .before .before .before .before .before .before .before .before .before .before .before .before .before .index .ensures) (rw z at (f .heads-are)) (rw z at (f .links-are)) _ (c .before .before .before .before .before .before .before .before .before .before .before .before .before .before .if1 .left) (w .outgoing-leads) (w .incoming-leads) (c .before .before .before .before .before .before .before .before .fill-gap .ensures W))
+    let o : tie.After-fill-gap = search in
+    let l : tie.Else1 = search in
+    let s : tie.After-s = search in
+    let d = sought s in
+    let f = d .change-edge-links .ensures in
+    gap-filled W _ _ _ _ _ _ _ _ (row d .index .ensures) _ _ _ (f .answer-is) (f .heads-are) (f .links-are) _ _ _ (s .s .given .1) _
+    (l .if1 .left) (o .fill-gap .ensures W)
 
 pub take-out-spec : {M : Type 1} → statement M
 take-out-spec =

@@ -1,10 +1,15 @@
--- `strip` meets its contract: each turn of the inner loop takes out one head, each of the outer one empties a list. Assumes nothing.
-use Prim.Native.Nat.{_-_, _<_}
+-- `strip` meets its contract: each turn of the inner loop takes out one head, each of the outer one empties a list.
+use Prim.Native.Nat.{_+_, _*_, _-_, _≤_, _<_}
 use mathlib.Core.Path.{_≡_, sym, ap, _∙_}
+use mathlib.Core.Bool.{false}
 use mathlib.Core.Logic.{⊎-elim}
 use native.Mathlib.Omega.{arith}
 use borrow.Author.Needs.{needs}
+use lib.ListN.{length, getD}
 use Rattle.index.specs.Index.{isEnd, numberOf}
+use Rattle.tables.specs.Net.{nodeCell}
+use Rattle.lists.specs.declared.Spot.the-variants.{Head}
+use Rattle.lists.specs.Walk.{linkIn}
 use Rattle.stripping.proofs.Headwise.{head-is, number-of-all, head-cell, Turned, turned-begins, removable-so, served-so, turned-by}
 use Rattle.stripping.proofs.Phases.{few-edges, Phased, phased-begins, phased-more, room-for-more, phased-rest, phased-items, phased-as}
 use Rattle.stripping.proofs.parts.strip.Statement.{statement}
@@ -27,117 +32,131 @@ abbrev μ-loop : tie.MeasureT-loop
 μ-loop heads₀ registers₀ links₀ ends₀ n m₀ a items₀ rows₀ count₀ k₀ heads registers links ends m items rows count k =
     2 - k
 
+-- the places that the answers speak of, and the way back to them
+abbrev Start : Type 0
+Start = tie.Start Inv-heads μ-heads Inv-loop μ-loop
+
+abbrev Loop : Type 0
+Loop = tie.At-loop Inv-heads μ-heads Inv-loop μ-loop
+
+abbrev Heads : Type 0
+Heads = tie.At-heads Inv-heads μ-heads Inv-loop μ-loop
+
+abbrev Number : Type 0
+Number = tie.After-number Inv-heads μ-heads Inv-loop μ-loop
+
+abbrev Else : Type 0
+Else = tie.Else1 Inv-heads μ-heads Inv-loop μ-loop
+
+abbrev begin : Loop → Start
+begin c = search
+
+abbrev turn : Heads → Loop
+turn c = search
+
+abbrev reading : Number → Heads
+reading c = search
+
+abbrev read : Else → Number
+read c = search
+
+abbrev taking : tie.After-take-out Inv-heads μ-heads Inv-loop μ-loop → Else
+taking c = search
+
+-- few edges and rows are counted
+counts : (c : Heads) → (c .heads .count + c .heads .m ≤ 65536) × (c .heads .rows + 4294967296 * c .heads .m ≤ 281474976710656)
+counts c =
+    let l = turn c .loop .inv in
+    let f = few-edges (begin (turn c) .pre) in
+    (omega (arith, c .heads .inv .0 .each, l .each, f), omega (arith, c .heads .inv .0 .few, l .few, f))
+
+-- the head's cell is there, and the head is what it holds
+cell-there : (c : Number) → let d : tie.After-index Inv-heads μ-heads Inv-loop μ-loop = search in let h = reading c in
+    (nodeCell (d .index .result) (c .number .result) < length (h .heads .heads)) × (nodeCell (d .index .result) (c .number .result) < 32768)
+cell-there c =
+    let d : tie.After-index Inv-heads μ-heads Inv-loop μ-loop = search in
+    let h = reading c in
+    let f = head-cell (h .heads .inv .0 .alive) _ (begin (turn h) .pre .node) in (
+      omega (arith, f .0, d .index .ensures, c .number .ensures, h .heads .inv .1, h .heads .inv .2),
+      omega (arith, f .1, d .index .ensures, c .number .ensures, h .heads .inv .1, h .heads .inv .2),
+    )
+
+head : (c : Number) → let d : tie.After-index Inv-heads μ-heads Inv-loop μ-loop = search in let h = reading c in let H = h .heads .heads in
+    getD H (nodeCell (d .index .result) (c .number .result)) 0 ≡ linkIn H (h .heads .links) (turn h .loop .k) (Head (begin (turn h) .args .a .0))
+head c =
+    let d : tie.After-index Inv-heads μ-heads Inv-loop μ-loop = search in
+    let h = reading c in
+    head-is (h .heads .heads) (h .heads .links) (d .index .ensures) (c .number .ensures) (h .heads .inv .1)
+
+-- it is an edge: there is room for its weight
+is-edge : (c : Else) → let h = reading (read c) in
+    isEnd (linkIn (h .heads .heads) (h .heads .links) (turn h .loop .k) (Head (begin (turn h) .args .a .0))) ≡ false
+is-edge c =
+    let d : tie.After-is-end Inv-heads μ-heads Inv-loop μ-loop = search in
+    ap isEnd (sym (head (read c))) ∙ sym (d .is-end .ensures) ∙ c .if1 .left
+
+room : (c : Else) → let h = reading (read c) in h .heads .count < length (h .heads .items)
+room c =
+    let h = reading (read c) in
+    let i = h .heads .inv in
+    let p = begin (turn h) .pre in
+    room-for-more _ _ _ _ _ _ _ _ (turn h .loop .inv) (i .0) (p .totals) (p .room) (i .2) (p .node) (is-edge c)
+
 loop-holds : tie.Need-loop-holds Inv-heads μ-heads Inv-loop μ-loop
 loop-holds c =
-    let p = c .before .before .before .before .before .pre in
+    let s : Start = search in
+    let p = s .pre in
     phased-begins _ _ _ _ _ _ _ _ (record { totals = p .totals; lists = p .lists; fit = p .fit; sound = p .sound })
 
 heads-holds : tie.Need-heads-holds Inv-heads μ-heads Inv-loop μ-loop
-heads-holds c = (
-  turned-begins _ _ _ _ _ _ _ _ _ _ _ (c .before .before .loop .inv .alive),
-  number-of-all _ (c .before .loop-test .taken),
-  c .before .loop-test .taken,
-)
-
-add-t26 : tie.Need-add-t26 Inv-heads μ-heads Inv-loop μ-loop
-add-t26 c =
-    let h = head-cell (c .before .before .heads .inv .0 .alive) _ (c .before .before .before .before .before .before .before .before .before .before .before .pre .node) in
-    record { fits = omega (arith, h .1, c .before .index .ensures, c .number .ensures, c .before .before .heads .inv .1, c .before .before .heads .inv .2) }
-
-mul-t27 : tie.Need-mul-t27 Inv-heads μ-heads Inv-loop μ-loop
-mul-t27 c =
-    let h = head-cell (c .before .before .heads .inv .0 .alive) _ (c .before .before .before .before .before .before .before .before .before .before .before .pre .node) in
-    record { fits = omega (arith, h .1, c .before .index .ensures, c .number .ensures, c .before .before .heads .inv .1, c .before .before .heads .inv .2) }
-
-slice-read-t29 : tie.Need-slice-read-t29 Inv-heads μ-heads Inv-loop μ-loop
-slice-read-t29 c =
-    let h = head-cell (c .before .before .before .heads .inv .0 .alive) _ (c .before .before .before .before .before .before .before .before .before .before .before .before .pre .node) in
-    omega (arith, h .0, c .before .before .index .ensures, c .before .number .ensures, c .before .before .before .heads .inv .1, c .before .before .before .heads .inv .2)
+heads-holds c =
+    let l : Loop = search in
+    (turned-begins _ _ _ _ _ _ _ _ _ _ _ (l .loop .inv .alive), number-of-all _ (c .before .loop-test .taken), c .before .loop-test .taken)
 
 take-out-requires : tie.Need-take-out-requires Inv-heads μ-heads Inv-loop μ-loop
 take-out-requires c κs =
-    let i = c .before .before .before .before .before .before .before .before .before .before .heads .inv in
-    let H = c .before .before .before .before .before .before .before .before .before .before .heads .heads in
-    let L = c .before .before .before .before .before .before .before .before .before .before .heads .links in
-    let q = head-is H L (c .before .before .before .before .before .before .before .before .before .index .ensures) (c .before .before .before .before .before .before .before .before .number .ensures) (i .1) in
-    removable-so _ _ _ _ _ _ _ _ _ _ _ _ _ _ _ _ _ _ _ (i .0) (i .2) (c .before .before .before .before .before .before .before .before .before .before .before .before .before .before .before .before .before .before .before .pre .node) (ap isEnd (sym q) ∙ sym (c .before .before .before .before .before .before .is-end .ensures) ∙ c .before .before .before .before .before .if1 .left) H H H H 0 _ q
-
-cast-items : tie.Need-cast-items Inv-heads μ-heads Inv-loop μ-loop
-cast-items c =
-    record { fits = omega (arith, c .before .before .before .before .before .before .before .before .before .before .before .before .before .before .before .before .before .before .before .before .before .before .heads .inv .0 .each, c .before .before .before .before .before .before .before .before .before .before .before .before .before .before .before .before .before .before .before .before .before .before .before .before .before .loop .inv .each, few-edges (c .before .before .before .before .before .before .before .before .before .before .before .before .before .before .before .before .before .before .before .before .before .before .before .before .before .before .before .before .before .before .before .pre)) }
-
-mul-items : tie.Need-mul-items Inv-heads μ-heads Inv-loop μ-loop
-mul-items c = record { fits = omega (arith, c .before .before .before .before .before .before .before .before .before .before .before .before .before .before .before .before .before .before .before .before .before .before .heads .inv .0 .each, c .before .before .before .before .before .before .before .before .before .before .before .before .before .before .before .before .before .before .before .before .before .before .before .before .before .loop .inv .each, few-edges (c .before .before .before .before .before .before .before .before .before .before .before .before .before .before .before .before .before .before .before .before .before .before .before .before .before .before .before .before .before .before .before .pre)) }
-
-slice-write-items : tie.Need-slice-write-items Inv-heads μ-heads Inv-loop μ-loop
-slice-write-items c =
-    let i = c .before .before .before .before .before .before .before .before .before .before .before .before .before .before .before .before .before .before .before .before .before .before .heads .inv in
-    let q = head-is (c .before .before .before .before .before .before .before .before .before .before .before .before .before .before .before .before .before .before .before .before .before .before .heads .heads) (c .before .before .before .before .before .before .before .before .before .before .before .before .before .before .before .before .before .before .before .before .before .before .heads .links) (c .before .before .before .before .before .before .before .before .before .before .before .before .before .before .before .before .before .before .before .before .before .index .ensures) (c .before .before .before .before .before .before .before .before .before .before .before .before .before .before .before .before .before .before .before .before .number .ensures) (i .1) in
-    let p = c .before .before .before .before .before .before .before .before .before .before .before .before .before .before .before .before .before .before .before .before .before .before .before .before .before .before .before .before .before .before .before .pre in
-    room-for-more _ _ _ _ _ _ _ _ (c .before .before .before .before .before .before .before .before .before .before .before .before .before .before .before .before .before .before .before .before .before .before .before .before .before .loop .inv) (i .0) (p .totals) (p .room) (i .2) (p .node) (ap isEnd (sym q) ∙ sym (c .before .before .before .before .before .before .before .before .before .before .before .before .before .before .before .before .before .before .is-end .ensures) ∙ c .before .before .before .before .before .before .before .before .before .before .before .before .before .before .before .before .before .if1 .left)
-
-add-count : tie.Need-add-count Inv-heads μ-heads Inv-loop μ-loop
-add-count c = record { fits = omega (arith, c .before .before .before .before .before .before .before .before .before .before .before .before .before .before .before .before .before .before .before .before .before .before .heads .inv .0 .each, c .before .before .before .before .before .before .before .before .before .before .before .before .before .before .before .before .before .before .before .before .before .before .before .before .before .loop .inv .each, few-edges (c .before .before .before .before .before .before .before .before .before .before .before .before .before .before .before .before .before .before .before .before .before .before .before .before .before .before .before .before .before .before .before .pre)) }
-
-add-rows : tie.Need-add-rows Inv-heads μ-heads Inv-loop μ-loop
-add-rows c = record { fits = omega (arith, c .before .before .before .before .before .before .before .before .before .before .before .before .before .before .before .before .before .before .before .before .before .before .heads .inv .0 .few, c .before .before .before .before .before .before .before .before .before .before .before .before .before .before .before .before .before .before .before .before .before .before .before .before .before .loop .inv .few, few-edges (c .before .before .before .before .before .before .before .before .before .before .before .before .before .before .before .before .before .before .before .before .before .before .before .before .before .before .before .before .before .before .before .pre), c .known-told .given .1 .1 .0) }
+    let d : Else = search in
+    let h = reading (read d) in
+    let i = h .heads .inv in
+    let H = h .heads .heads in
+    removable-so _ _ _ _ _ _ _ _ _ _ _ _ _ _ _ _ _ _ _ (i .0) (i .2) (begin (turn h) .pre .node) (is-edge d) H H H H 0 _ (head (read d))
 
 heads-less : tie.Need-heads-less Inv-heads μ-heads Inv-loop μ-loop
 heads-less c =
-    let i = c .before .before .before .before .before .before .before .before .before .before .before .before .before .before .before .before .before .before .before .before .before .before .heads .inv in
-    let k = c .before .before .before .before .before .before .before .before .before .before .before .take-out .kept in
-    let q = head-is (c .before .before .before .before .before .before .before .before .before .before .before .before .before .before .before .before .before .before .before .before .before .before .heads .heads) (c .before .before .before .before .before .before .before .before .before .before .before .before .before .before .before .before .before .before .before .before .before .before .heads .links) (c .before .before .before .before .before .before .before .before .before .before .before .before .before .before .before .before .before .before .before .before .before .index .ensures) (c .before .before .before .before .before .before .before .before .before .before .before .before .before .before .before .before .before .before .before .before .number .ensures) (i .1) in
-    let p = c .before .before .before .before .before .before .before .before .before .before .before .before .before .before .before .before .before .before .before .before .before .before .before .before .before .before .before .before .before .before .before .pre in
-    let z = ap isEnd (sym q) ∙ sym (c .before .before .before .before .before .before .before .before .before .before .before .before .before .before .before .before .before .before .is-end .ensures) ∙ c .before .before .before .before .before .before .before .before .before .before .before .before .before .before .before .before .before .if1 .left in
-    let room = room-for-more _ _ _ _ _ _ _ _ (c .before .before .before .before .before .before .before .before .before .before .before .before .before .before .before .before .before .before .before .before .before .before .before .before .before .loop .inv) (i .0) (p .totals) (p .room) (i .2) (p .node) z in
+    let o : tie.After-take-out Inv-heads μ-heads Inv-loop μ-loop = search in
+    let d = taking o in
+    let h = reading (read d) in
+    let i = h .heads .inv in
+    let k = o .take-out .kept in
     let small : c .before .w .given .0 .1 .1 .0 < 4294967296 = omega (arith, c .known-told .given .1 .1 .0) in
-    let t =
-    turned-by _ _ _ _ _ _ _ _ _ _ _ _ _ _ _ _ _ _ _ (i .0) (i .2) (p .node) z _ _ _ _ _ _ _ _ _ _ (c .before .w .given .1) q (c .before .before .before .before .before .before .before .before .before .before .before .take-out .ensures) (k .0) (k .1 .0) (k .1 .1 .0) (k .1 .1 .1 .0) small room in
-    t .0
+    turned-by _ _ _ _ _ _ _ _ _ _ _ _ _ _ _ _ _ _ _ (i .0) (i .2) (begin (turn h) .pre .node) (is-edge d) _ _ _ _ _ _ _ _ _ _
+    (c .before .w .given .1) (head (read d)) (o .take-out .ensures) (k .0) (k .1 .0) (k .1 .1 .0) (k .1 .1 .1 .0) small (room d) .0
 
 heads-again : tie.Need-heads-again Inv-heads μ-heads Inv-loop μ-loop
 heads-again c =
-    let i = c .before .before .before .before .before .before .before .before .before .before .before .before .before .before .before .before .before .before .before .before .before .before .heads .inv in
-    let k = c .before .before .before .before .before .before .before .before .before .before .before .take-out .kept in
-    let q = head-is (c .before .before .before .before .before .before .before .before .before .before .before .before .before .before .before .before .before .before .before .before .before .before .heads .heads) (c .before .before .before .before .before .before .before .before .before .before .before .before .before .before .before .before .before .before .before .before .before .before .heads .links) (c .before .before .before .before .before .before .before .before .before .before .before .before .before .before .before .before .before .before .before .before .before .index .ensures) (c .before .before .before .before .before .before .before .before .before .before .before .before .before .before .before .before .before .before .before .before .number .ensures) (i .1) in
-    let p = c .before .before .before .before .before .before .before .before .before .before .before .before .before .before .before .before .before .before .before .before .before .before .before .before .before .before .before .before .before .before .before .pre in
-    let z = ap isEnd (sym q) ∙ sym (c .before .before .before .before .before .before .before .before .before .before .before .before .before .before .before .before .before .before .is-end .ensures) ∙ c .before .before .before .before .before .before .before .before .before .before .before .before .before .before .before .before .before .if1 .left in
-    let room = room-for-more _ _ _ _ _ _ _ _ (c .before .before .before .before .before .before .before .before .before .before .before .before .before .before .before .before .before .before .before .before .before .before .before .before .before .loop .inv) (i .0) (p .totals) (p .room) (i .2) (p .node) z in
+    let o : tie.After-take-out Inv-heads μ-heads Inv-loop μ-loop = search in
+    let d = taking o in
+    let h = reading (read d) in
+    let i = h .heads .inv in
+    let k = o .take-out .kept in
     let small : c .before .w .given .0 .1 .1 .0 < 4294967296 = omega (arith, c .known-told .given .1 .1 .0) in
     let t =
-    turned-by _ _ _ _ _ _ _ _ _ _ _ _ _ _ _ _ _ _ _ (i .0) (i .2) (p .node) z _ _ _ _ _ _ _ _ _ _ (c .before .w .given .1) q (c .before .before .before .before .before .before .before .before .before .before .before .take-out .ensures) (k .0) (k .1 .0) (k .1 .1 .0) (k .1 .1 .1 .0) small room in
+    turned-by _ _ _ _ _ _ _ _ _ _ _ _ _ _ _ _ _ _ _ (i .0) (i .2) (begin (turn h) .pre .node) (is-edge d) _ _ _ _ _ _ _ _ _ _
+    (c .before .w .given .1) (head (read d)) (o .take-out .ensures) (k .0) (k .1 .0) (k .1 .1 .0) (k .1 .1 .1 .0) small (room d) in
     (t .1, i .1, i .2)
-
-add-k : tie.Need-add-k Inv-heads μ-heads Inv-loop μ-loop
-add-k c = record { fits = omega (arith, c .before .before .before .before .before .before .before .loop-test .taken) }
-
-loop-less : tie.Need-loop-less Inv-heads μ-heads Inv-loop μ-loop
-loop-less c = omega (arith, c .before .before .before .before .before .before .before .loop-test .taken)
 
 loop-again : tie.Need-loop-again Inv-heads μ-heads Inv-loop μ-loop
 loop-again c =
-    let i = c .before .before .before .before .before .heads .inv in
-    let q = head-is (c .before .before .before .before .before .heads .heads) (c .before .before .before .before .before .heads .links) (c .before .before .before .before .index .ensures) (c .before .before .before .number .ensures) (i .1) in
-    let e = ap isEnd (sym q) ∙ sym (c .before .is-end .ensures) in
+    let d : Number = search in
+    let h = reading d in
+    let i = h .heads .inv in
+    let e = ap isEnd (sym (head d)) ∙ sym (c .before .is-end .ensures) in
     ⊎-elim
-    (λ w. phased-as _ _ _ _ _ _ _ _ (phased-more _ _ _ _ _ _ _ _ (c .before .before .before .before .before .before .before .before .loop .inv) (i .0) (i .2) (e ∙ w .0 .taken)) (w .1) (w .2) (w .3) (w .4) (w .5))
-    (λ w. absurd (served-so _ _ _ _ _ _ _ _ _ _ _ _ _ _ _ _ _ _ _ (i .0) (i .2) (c .before .before .before .before .before .before .before .before .before .before .before .before .before .before .pre .node) (e ∙ w .0 .left) _ _ _ _ _ _ _ _ (w .16 .given .1) q (w .6 .ensures (i .0 .alive .totals))))
+    (λ w. phased-as _ _ _ _ _ _ _ _ (phased-more _ _ _ _ _ _ _ _ (turn h .loop .inv) (i .0) (i .2) (e ∙ w .0 .taken)) (w .1) (w .2) (w .3) (w .4) (w .5))
+    (λ w.
+    absurd (served-so _ _ _ _ _ _ _ _ _ _ _ _ _ _ _ _ _ _ _ (i .0) (i .2) (begin (turn h) .pre .node) (e ∙ w .0 .left) _ _ _ _ _ _ _ _
+    (w .16 .given .1) (head d) (w .6 .ensures (i .0 .alive .totals))))
     (c .if1 .came)
-
-same-length : tie.Need-same-length Inv-heads μ-heads Inv-loop μ-loop
-same-length c = c .before .loop .inv .heads-long
-
-same-length-2 : tie.Need-same-length-2 Inv-heads μ-heads Inv-loop μ-loop
-same-length-2 c = c .before .loop .inv .registers-long
-
-same-length-3 : tie.Need-same-length-3 Inv-heads μ-heads Inv-loop μ-loop
-same-length-3 c = c .before .loop .inv .links-long
-
-same-length-4 : tie.Need-same-length-4 Inv-heads μ-heads Inv-loop μ-loop
-same-length-4 c = c .before .loop .inv .ends-long
-
-same-length-5 : tie.Need-same-length-5 Inv-heads μ-heads Inv-loop μ-loop
-same-length-5 c = c .before .loop .inv .items-long
 
 returns : tie.Need-returns Inv-heads μ-heads Inv-loop μ-loop
 returns c =
@@ -148,7 +167,7 @@ returns c =
       count-is = sym (p .many);
       items-are = phased-items _ _ _ _ _ _ _ _ p;
       fewer = p .fewer;
-      few = omega (arith, p .few, few-edges (c .before .before .before .before .before .before .before .pre));
+      few = omega (arith, p .few, few-edges (begin (c .before) .pre));
     }
 
 pub strip-spec : {M : Type 1} → statement M
@@ -165,27 +184,27 @@ strip-spec =
     (λ c κs. search needs)
     (λ c. search needs)
     (λ c κs. search needs)
-    add-t26
-    mul-t27
-    slice-read-t29
+    (λ c. omega (arith, cell-there c))
+    (λ c. omega (arith, cell-there c))
+    (λ c. cell-there (search) .0)
     (λ c κs. search needs)
     take-out-requires
     (λ c. search needs)
-    cast-items
-    mul-items
-    slice-write-items
-    add-count
+    (λ c. let h : Heads = search in omega (arith, counts h))
+    (λ c. let h : Heads = search in omega (arith, counts h))
+    (λ c. let d : tie.After-take-out Inv-heads μ-heads Inv-loop μ-loop = search in room (taking d))
+    (λ c. let h : Heads = search in omega (arith, counts h))
     (λ c. search needs)
-    add-rows
+    (λ c. let h : Heads = search in omega (arith, counts h, c .known-told .given .1 .1 .0))
     heads-less
     heads-again
     (λ c. search needs)
-    add-k
-    loop-less
+    (λ c. let d : tie.In-loop Inv-heads μ-heads Inv-loop μ-loop = search in omega (arith, d .loop-test .taken))
+    (λ c. let d : tie.In-loop Inv-heads μ-heads Inv-loop μ-loop = search in omega (arith, d .loop-test .taken))
     loop-again
-    same-length
-    same-length-2
-    same-length-3
-    same-length-4
-    same-length-5
+    (λ c. c .before .loop .inv .heads-long)
+    (λ c. c .before .loop .inv .registers-long)
+    (λ c. c .before .loop .inv .links-long)
+    (λ c. c .before .loop .inv .ends-long)
+    (λ c. c .before .loop .inv .items-long)
     returns)
