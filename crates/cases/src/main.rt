@@ -1,6 +1,7 @@
-// The order's list 'Tried by hand', run: what has to come out was worked out there. `stdin` is a script that builds network A, asks and
-// changes it, case by case, and builds it anew (Z) for the next. It is obeyed in tables of three node rows and five edge rows, so that
-// the last edge row is soon taken. Its answers are printed, then the edge rows that its last line, X 0 on A, has left; then the image of one node.
+// The order's list 'Tried by hand', run: what has to come out was worked out there. `stdin` is a script: W 0 and D 0 on an empty network, then
+// network A, built anew (Z) where a case has changed it. Behind a D, the sums tell which node moved. The script is obeyed in tables of three node
+// rows and five edge rows, so that the last edge row is soon taken. Its answers are printed, then the edge rows that its last line, X 0 on A,
+// has left; then the image of one node.
 ghost use Prim.Native.Nat.{_≤_};
 ghost use mathlib.Core.Path.{_≡_};
 ghost use lib.ListN.{length, take};
