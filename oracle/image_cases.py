@@ -1,5 +1,5 @@
 #!/usr/bin/env python3
-"""The lines of crates/imagecases/stdout, worked out from the order's words alone: images with struct, soundness by
+"""The lines of rust/tests/by_hand/images.txt, worked out from the order's words alone: images with struct, soundness by
 listing every list and counting each edge in it. Shares nothing with the crates."""
 import struct
 

@@ -50,9 +50,10 @@ pub enum Fault {
     Tables,
 }
 
-/// Where a walk around a node stands. It is lent to each step, and takes no hold of the network.
+/// Where a walk around a node stands: the node, then the next edge of its outgoing and of its incoming list.
+/// It is lent to each step, and takes no hold of the network. Any three numbers will do.
 #[derive(Clone, Copy, Debug, PartialEq, Eq)]
-pub struct Walker([u32; 3]);
+pub struct Walker(pub [u32; 3]);
 
 /// A network of waterways, with the names of `UnGraph`.
 #[derive(Clone, Debug, PartialEq, Eq)]
@@ -245,59 +246,103 @@ impl Network {
 
     /// The neighbours of a node: along its outgoing list, then along its incoming one without self-loops.
     pub fn neighbors(&self, a: NodeIndex) -> Result<Vec<NodeIndex>, Refusal> {
-        let rows = grown(|at, length, count| ask!(self, net_neighbors(a.0, at, length, count)))?;
-        Ok(rows.into_iter().map(NodeIndex).collect())
+        let nodes = grown(|items| self.neighbors_into(a, items))?;
+        Ok(nodes.into_iter().map(NodeIndex).collect())
     }
 
     /// The same into a table that may be too short; how many.
     pub fn neighbors_into(&self, a: NodeIndex, items: &mut [u32]) -> Result<usize, Refusal> {
-        let (at, length, mut count) = (items.as_mut_ptr(), items.len(), 0);
-        ask!(self, net_neighbors(a.0, at, length, &mut count))?;
-        Ok(count as usize)
+        filled(items, |at, length, count| {
+            ask!(self, net_neighbors(a.0, at, length, count))
+        })
     }
 
     /// The weights of the edges of the neighbour walk.
     pub fn edge_weights(&self, a: NodeIndex) -> Result<Vec<u32>, Refusal> {
-        grown(|at, length, count| ask!(self, net_edge_weights(a.0, at, length, count)))
+        grown(|items| self.edge_weights_into(a, items))
+    }
+
+    /// The same into a table that may be too short; how many.
+    pub fn edge_weights_into(&self, a: NodeIndex, items: &mut [u32]) -> Result<usize, Refusal> {
+        filled(items, |at, length, count| {
+            ask!(self, net_edge_weights(a.0, at, length, count))
+        })
     }
 
     /// The edges of the neighbour walk whose far end is `b`.
     pub fn edges_between(&self, a: NodeIndex, b: NodeIndex) -> Result<Vec<EdgeIndex>, Refusal> {
-        let rows =
-            grown(|at, length, count| ask!(self, net_edges_between(a.0, b.0, at, length, count)))?;
-        Ok(rows.into_iter().map(EdgeIndex).collect())
+        edges_of(grown(|items| self.edges_between_into(a, b, items)))
+    }
+
+    /// The same into a table that may be too short; how many.
+    pub fn edges_between_into(
+        &self,
+        a: NodeIndex,
+        b: NodeIndex,
+        items: &mut [u32],
+    ) -> Result<usize, Refusal> {
+        filled(items, |at, length, count| {
+            ask!(self, net_edges_between(a.0, b.0, at, length, count))
+        })
     }
 
     /// The edges of a node, incoming ones first; a self-loop comes twice.
     pub fn edges_mut(&self, a: NodeIndex) -> Result<Vec<EdgeIndex>, Refusal> {
-        let rows = grown(|at, length, count| ask!(self, net_edges_mut(a.0, at, length, count)))?;
-        Ok(rows.into_iter().map(EdgeIndex).collect())
+        edges_of(grown(|items| self.edges_mut_into(a, items)))
+    }
+
+    /// The same into a table that may be too short; how many.
+    pub fn edges_mut_into(&self, a: NodeIndex, items: &mut [u32]) -> Result<usize, Refusal> {
+        filled(items, |at, length, count| {
+            ask!(self, net_edges_mut(a.0, at, length, count))
+        })
     }
 
     /// The edges whose weights `UnGraph` hands out to be changed: those of [`Network::edges_mut`].
     pub fn edge_weights_mut(&self, a: NodeIndex) -> Result<Vec<EdgeIndex>, Refusal> {
-        let rows =
-            grown(|at, length, count| ask!(self, net_edge_weights_mut(a.0, at, length, count)))?;
-        Ok(rows.into_iter().map(EdgeIndex).collect())
+        edges_of(grown(|items| self.edge_weights_mut_into(a, items)))
+    }
+
+    /// The same into a table that may be too short; how many.
+    pub fn edge_weights_mut_into(&self, a: NodeIndex, items: &mut [u32]) -> Result<usize, Refusal> {
+        filled(items, |at, length, count| {
+            ask!(self, net_edge_weights_mut(a.0, at, length, count))
+        })
     }
 
     /// Number, source and target of each edge of the neighbour walk, the ends of incoming ones turned round.
     pub fn edges(&self, a: NodeIndex) -> Result<Vec<(EdgeIndex, NodeIndex, NodeIndex)>, Refusal> {
         // Three tables of one length: the first is the one that grows.
         let (mut sources, mut targets) = (Vec::new(), Vec::new());
-        let numbers = grown(|numbers, length, count| {
-            (sources, targets) = (vec![0; length], vec![0; length]);
-            let (source, target) = (sources.as_mut_ptr(), targets.as_mut_ptr());
-            ask!(
-                self,
-                net_edges(a.0, numbers, length, source, length, target, length, count)
-            )
+        let numbers = grown(|numbers| {
+            (sources, targets) = (vec![0; numbers.len()], vec![0; numbers.len()]);
+            self.edges_into(a, numbers, &mut sources, &mut targets)
         })?;
         let ends = sources.into_iter().zip(targets);
         let edges = numbers.into_iter().zip(ends);
         Ok(edges
             .map(|(e, (a, b))| (EdgeIndex(e), NodeIndex(a), NodeIndex(b)))
             .collect())
+    }
+
+    /// The same into three tables that may be too short; how many.
+    pub fn edges_into(
+        &self,
+        a: NodeIndex,
+        numbers: &mut [u32],
+        sources: &mut [u32],
+        targets: &mut [u32],
+    ) -> Result<usize, Refusal> {
+        let (source, target) = (sources.as_mut_ptr(), targets.as_mut_ptr());
+        let (sources, targets) = (sources.len(), targets.len());
+        filled(numbers, |number, numbers, count| {
+            ask!(
+                self,
+                net_edges(
+                    a.0, number, numbers, source, sources, target, targets, count
+                )
+            )
+        })
     }
 
     /// The weights of all edges, in row order.
@@ -371,17 +416,14 @@ impl Network {
     where
         F: FnMut(u32),
     {
-        let (mut weight, mut rows) = (0, 0);
-        let t = &mut self.0;
-        let weights = grown(|at, length, count| {
-            let (n, m) = (&mut t.n, &mut t.m);
-            change!(
-                t,
-                net_remove_node(n, m, a.0, at, length, &mut weight, &mut rows, count)
-            )
+        let mut removed = NodeRemoved { weight: 0, rows: 0 };
+        let weights = grown(|items| {
+            let count;
+            (removed, count) = self.remove_node_into(a, items)?;
+            Ok(count)
         })?;
         weights.into_iter().for_each(edge_callback);
-        Ok(NodeRemoved { weight, rows })
+        Ok(removed)
     }
 
     /// The same with the weights into a table that may be too short; how many.
@@ -390,15 +432,16 @@ impl Network {
         a: NodeIndex,
         items: &mut [u32],
     ) -> Result<(NodeRemoved, usize), Refusal> {
-        let (at, length, mut count) = (items.as_mut_ptr(), items.len(), 0);
         let (mut weight, mut rows) = (0, 0);
         let t = &mut self.0;
-        let (n, m) = (&mut t.n, &mut t.m);
-        change!(
-            t,
-            net_remove_node(n, m, a.0, at, length, &mut weight, &mut rows, &mut count)
-        )?;
-        Ok((NodeRemoved { weight, rows }, count as usize))
+        let count = filled(items, |at, length, count| {
+            let (n, m) = (&mut t.n, &mut t.m);
+            change!(
+                t,
+                net_remove_node(n, m, a.0, at, length, &mut weight, &mut rows, count)
+            )
+        })?;
+        Ok((NodeRemoved { weight, rows }, count))
     }
 
     /// Takes out all nodes and edges.
@@ -442,21 +485,32 @@ impl Network {
 /// The items that a table has room for at first.
 const FIRST_LENGTH: usize = 64;
 
-/// The items of a call that is lent a table, its length and a count. The table grows while the call is
-/// refused 7, which has then changed nothing.
-fn grown(
-    mut call: impl FnMut(*mut u32, usize, *mut u32) -> Result<(), Refusal>,
-) -> Result<Vec<u32>, Refusal> {
-    let mut items = vec![0; FIRST_LENGTH];
+/// Lends a call the output table, its length and a count; how many items it gave.
+fn filled(
+    items: &mut [u32],
+    call: impl FnOnce(*mut u32, usize, *mut u32) -> Result<(), Refusal>,
+) -> Result<usize, Refusal> {
     let mut count = 0;
+    call(items.as_mut_ptr(), items.len(), &mut count)?;
+    Ok(count as usize)
+}
+
+/// The items of a call that fills a table and tells how many. The table grows while the call is refused 7,
+/// which has then changed nothing.
+fn grown(mut call: impl FnMut(&mut [u32]) -> Result<usize, Refusal>) -> Result<Vec<u32>, Refusal> {
+    let mut items = vec![0; FIRST_LENGTH];
     loop {
-        match call(items.as_mut_ptr(), items.len(), &mut count) {
+        match call(&mut items) {
             Err(Refusal::Short) => items = vec![0; 2 * items.len()],
             Err(why) => return Err(why),
-            Ok(()) => {
-                items.truncate(count as usize);
+            Ok(count) => {
+                items.truncate(count);
                 return Ok(items);
             }
         }
     }
+}
+
+fn edges_of(rows: Result<Vec<u32>, Refusal>) -> Result<Vec<EdgeIndex>, Refusal> {
+    Ok(rows?.into_iter().map(EdgeIndex).collect())
 }

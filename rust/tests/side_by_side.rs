@@ -205,6 +205,10 @@ impl Pair {
             .edge_endpoints(edge)
             .map(|(a, b)| (node_of(a), node_of(b)));
         assert_eq!(self.ours.edge_endpoints(e), ends.ok_or(Refusal::NoEdge));
+        self.first_and_next(a, e);
+    }
+
+    fn first_and_next(&self, a: NodeIndex, e: EdgeIndex) {
         for (ours, dir) in DIRECTIONS {
             let missing = if self.has(a) {
                 Refusal::Nothing
@@ -219,7 +223,8 @@ impl Pair {
             } else {
                 Refusal::NoEdge
             };
-            let next = self.theirs.next_edge(edge, dir).map(edge_of);
+            let next = self.theirs.next_edge(graph::EdgeIndex(e.0), dir);
+            let next = next.map(edge_of);
             assert_eq!(self.ours.next_edge(e, ours), next.ok_or(missing));
         }
     }
@@ -241,9 +246,8 @@ impl Pair {
 
     fn walk(&mut self) {
         let (a, b) = (self.node(), self.node());
+        self.neighbors(a);
         let g = &mut self.theirs;
-        let neighbors: Vec<NodeIndex> = g.neighbors(theirs(a)).map(node_of).collect();
-        let sum = neighbors.iter().map(|b| i64::from(g[theirs(*b)])).sum();
         let edges = g
             .edges(theirs(a))
             .map(|e| (edge_of(e.index()), node_of(e.source()), node_of(e.target())));
@@ -270,8 +274,15 @@ impl Pair {
             self.ours.all_edge_weights(),
             Ok(g.all_edge_weights().copied().collect())
         );
+    }
+
+    /// The neighbours at once, their sum, and one at a time.
+    fn neighbors(&self, a: NodeIndex) {
+        let g = &self.theirs;
+        let neighbors: Vec<NodeIndex> = g.neighbors(theirs(a)).map(node_of).collect();
         assert_eq!(self.ours.neighbors(a), Ok(neighbors.clone()));
-        let around = if (a.0 as usize) < g.node_count() {
+        let sum = neighbors.iter().map(|b| i64::from(g[theirs(*b)])).sum();
+        let around = if self.has(a) {
             Ok(sum)
         } else {
             Err(Refusal::NoNode)

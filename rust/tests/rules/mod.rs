@@ -51,18 +51,24 @@ fn met(t: &Tables, k: usize, edge: u32) -> Met {
     }
 }
 
-/// The neighbour walk: the outgoing list, then the incoming one without self-loops. A missing node has none.
-pub fn around(t: &Tables, a: u32) -> Result<Vec<Met>, Refusal> {
+/// Both lists of a node, the outgoing one first. A missing node has empty ones.
+fn lists(t: &Tables, a: u32) -> Result<[Vec<u32>; 2], Refusal> {
     if !fit(t) {
         return Err(Refusal::Tables);
     }
     if t.n <= a {
-        return Ok(Vec::new());
+        return Ok([Vec::new(), Vec::new()]);
     }
     let ((out, endless), (incoming, endless_in)) = (list(t, 0, a), list(t, 1, a));
     if endless || endless_in {
         return Err(Refusal::Broken);
     }
+    Ok([out, incoming])
+}
+
+/// The neighbour walk: the outgoing list, then the incoming one without self-loops.
+pub fn around(t: &Tables, a: u32) -> Result<Vec<Met>, Refusal> {
+    let [out, incoming] = lists(t, a)?;
     let first = out.into_iter().map(|e| met(t, 0, e));
     let second = incoming
         .into_iter()
@@ -73,16 +79,7 @@ pub fn around(t: &Tables, a: u32) -> Result<Vec<Met>, Refusal> {
 
 /// All edges of a node, incoming ones first.
 pub fn edges_mut(t: &Tables, a: u32) -> Result<Vec<u32>, Refusal> {
-    if !fit(t) {
-        return Err(Refusal::Tables);
-    }
-    if t.n <= a {
-        return Ok(Vec::new());
-    }
-    let ((incoming, endless_in), (out, endless)) = (list(t, 1, a), list(t, 0, a));
-    if endless || endless_in {
-        return Err(Refusal::Broken);
-    }
+    let [out, incoming] = lists(t, a)?;
     Ok([incoming, out].concat())
 }
 

@@ -1,14 +1,15 @@
+-- `show::cells` ends: one cell a turn.
 use Prim.Native.Nat.{_-_, _≤_}
-use lib.ListN.{length}
 use borrow.Author.Needs.{needs}
+use lib.ListN.{length}
 use Rattle.cases.proofs.show.cells.Statement.{statement}
 use Rattle.cases.proofs.show.cells.Tie as tie
 
 abbrev Inv-loop : tie.InvT-loop
-Inv-loop column i₀ i = i ≤ length column
+Inv-loop label column i₀ t4 i = i ≤ length column
 
 abbrev μ-loop : tie.MeasureT-loop
-μ-loop column i₀ i = length column - i
+μ-loop label column i₀ t4 i = length column - i
 
 pub cells-spec : {M : Type 1} → statement M
 cells-spec =
@@ -16,7 +17,6 @@ cells-spec =
     (tie.spec
     Inv-loop
     μ-loop
-    (λ c. search needs)
     (λ c κs. search needs)
     (λ c. search needs)
     (λ c. search needs)
@@ -25,4 +25,6 @@ cells-spec =
     (λ c. search needs)
     (λ c. search needs)
     (λ c. search needs)
+    (λ c. search needs)
+    (λ c κs. search needs)
     (λ c. search needs))

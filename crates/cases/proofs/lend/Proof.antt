@@ -1,8 +1,9 @@
+-- `lend` meets its contract: what it lends is no longer than the bytes.
 use mathlib.Core.Path.{sym}
 use native.Mathlib.Omega.{arith}
 use lib.Seq.{length-take-le}
-use Rattle.cases.proofs.net.lend.Statement.{statement}
-use Rattle.cases.proofs.net.lend.Tie as tie
+use Rattle.cases.proofs.lend.Statement.{statement}
+use Rattle.cases.proofs.lend.Tie as tie
 
 pub lend-spec : {M : Type 1} → statement M
 lend-spec = tie.close (tie.spec (λ c. (omega arith, sym (length-take-le _ _ (omega arith)))) (λ c. (omega arith, sym (length-take-le _ _ (omega arith)))))

@@ -1,9 +1,0 @@
--- `tries::lend` meets its contract. Assumes nothing.
-use mathlib.Core.Path.{sym}
-use native.Mathlib.Omega.{arith}
-use lib.Seq.{length-take-le}
-use Rattle.imagecases.proofs.tries.lend.Statement.{statement}
-use Rattle.imagecases.proofs.tries.lend.Tie as tie
-
-pub lend-spec : {M : Type 1} → statement M
-lend-spec = tie.close (tie.spec (λ c. (omega arith, sym (length-take-le _ _ (omega arith)))) (λ c. (omega arith, sym (length-take-le _ _ (omega arith)))))
