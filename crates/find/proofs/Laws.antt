@@ -1,6 +1,6 @@
 -- What the first match of a list says of the search of both; the row that a search finds is below m.
 use Prim.Native.Nat.{ℕ, _-_, _<_}
-use mathlib.Core.Path.{_≡_, refl, sym, ap}
+use mathlib.Core.Path.{_≡_, refl, ap}
 use mathlib.Core.Bool.{Bool, true, false, cond}
 use mathlib.Core.List.{List, [], _∷_}
 use mathlib.Core.Logic.{_⊎_, inl, inr, ⊎-elim}
@@ -27,52 +27,26 @@ sought-by P (Row e k) found missing endless p q r = p (e .0)
 sought-by P Missing found missing endless p q r = q
 sought-by P Endless found missing endless p q r = r
 
-abbrev at-end : ℕ → Bool → Found
-at-end s b = cond b Found·.Broken (Found·.End (record { 0 = s }))
-
-module _ (k m s : ℕ) (next : Sought) where
-  pub found-row : (xs : List ℕ) {e : EdgeIndex} → firstOf xs m s ≡ Found·.At e → firstIn k xs (ltb s m) next ≡ Row e k
-  found-row (x ∷ xs) {e} h = ap (λ (z : EdgeIndex). Row z k) (cc)
-  found-row [] {e} h = go (ltb s m) h
-    where
-      go : (b : Bool) → at-end s b ≡ Found·.At e → cond b Endless next ≡ Row e k
-      go true h = absurd (let z : _≡_ {A = ℕ} 0 1 = cc in omega arith)
-      go false h = absurd (let z : _≡_ {A = ℕ} 0 1 = cc in omega arith)
-
-  pub found-broken : (xs : List ℕ) → firstOf xs m s ≡ Found·.Broken → firstIn k xs (ltb s m) next ≡ Endless
-  found-broken (x ∷ xs) h = absurd (let z : _≡_ {A = ℕ} 0 1 = cc in omega arith)
-  found-broken [] h = go (ltb s m) h
-    where
-      go : (b : Bool) → at-end s b ≡ Found·.Broken → cond b Endless next ≡ Endless
-      go true h = refl
-      go false h = absurd (let z : _≡_ {A = ℕ} 0 1 = cc in omega arith)
-
-  pub found-end : (xs : List ℕ) {e : EdgeIndex} → firstOf xs m s ≡ Found·.End e → firstIn k xs (ltb s m) next ≡ next
-  found-end (x ∷ xs) {e} h = absurd (let z : _≡_ {A = ℕ} 0 1 = cc in omega arith)
-  found-end [] {e} h = go (ltb s m) h
-    where
-      go : (b : Bool) → at-end s b ≡ Found·.End e → cond b Endless next ≡ next
-      go true h = absurd (let z : _≡_ {A = ℕ} 0 1 = cc in omega arith)
-      go false h = refl
-
 -- what the first match of a list in direction k tells: a match is the answer, else what comes next
 abbrev pub after : ℕ → Found → Sought → Sought
 after k (Found·.At e) next = Row e k
 after k (Found·.End e) next = next
 after k Found·.Broken next = Endless
 
--- the first match of node a's list in direction k
-abbrev listOf : List ℕ → List ℕ → List ℕ → (m a b k : ℕ) → List ℕ
-listOf heads links ends m a b k = takenFrom links ends m k (To (record { 0 = b })) (getD heads (nodeCell a k) 0)
+first-told : (k m s : ℕ) (next : Sought) (xs : List ℕ) → after k (firstOf xs m s) next ≡ firstIn k xs (ltb s m) next
+first-told k m s next (x ∷ xs) = refl
+first-told k m s next [] = by (ltb s m)
+  where
+    by : (b : Bool) → after k (cond b Found·.Broken (Found·.End (record { 0 = s }))) next ≡ cond b Endless next
+    by true = refl
+    by false = refl
 
-abbrev pub outcome : List ℕ → List ℕ → List ℕ → (m a b k : ℕ) → Found
-outcome heads links ends m a b k = firstOf (listOf heads links ends m a b k) m (stopFrom links m k (getD heads (nodeCell a k) 0))
-
-pub told-by : (heads links ends : List ℕ) (m a b k : ℕ) (next : Sought) (v : Found) → outcome heads links ends m a b k ≡ v
-    → after k v next ≡ searched heads links ends m a b k next
-told-by heads links ends m a b k next (Found·.At e) h = sym (found-row k m _ next (listOf heads links ends m a b k) h)
-told-by heads links ends m a b k next (Found·.End e) h = sym (found-end k m _ next (listOf heads links ends m a b k) h)
-told-by heads links ends m a b k next Found·.Broken h = sym (found-broken k m _ next (listOf heads links ends m a b k) h)
+-- so the search of node a's list in direction k, by how it ended
+pub told-by : (heads links ends : List ℕ) (m a b k : ℕ) (next : Sought) (v : Found) → let link = getD heads (nodeCell a k) 0 in
+    firstOf (takenFrom links ends m k (To (record { 0 = b })) link) m (stopFrom links m k link) ≡ v → after k v next ≡ searched heads links ends m a b k next
+told-by heads links ends m a b k next v h =
+    let link = getD heads (nodeCell a k) 0 in
+    rw (← h) (first-told k m (stopFrom links m k link) next (takenFrom links ends m k (To (record { 0 = b })) link))
 
 -- the row that a search finds is below m
 module _ (heads links ends : List ℕ) (m a b : ℕ) where

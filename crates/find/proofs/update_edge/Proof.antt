@@ -12,7 +12,7 @@ use Rattle.tables.proofs.Guards.{guards, FitOf}
 use Rattle.tables.proofs.Laws.{fitting}
 use Rattle.rows.specs.Calls.{addEdge}
 use Rattle.find.specs.declared.Sought.{Sought}
-use Rattle.find.specs.Find.{sought, on, updateEdge}
+use Rattle.find.specs.Find.{on, updateEdge}
 use Rattle.find.proofs.Laws.{sought-below}
 use Rattle.find.proofs.update_edge.Statement.{statement}
 use Rattle.find.proofs.update_edge.Tie as tie
