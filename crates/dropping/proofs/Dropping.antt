@@ -1,5 +1,5 @@
 -- A node without edges is dropped, and the last node takes its place: its total, `drop-totals`, and the ends of its edges, `drop-ends`. The rows
--- visited are those of its lists, `drop-read`; the network left fits, `drop-fits`, and is sound, `drop-sound`. Assumes nothing.
+-- visited are those of its lists, `drop-read`; the network left fits, `drop-fits`, and is sound, `drop-sound`.
 use Prim.Native.Nat.{ℕ, _+_, _*_, _-_, _≤_, _<_}
 use mathlib.Core.Path.{_≡_, refl, sym, ap, ap₂, _∙_}
 use mathlib.Core.Logic.{inl, inr}
