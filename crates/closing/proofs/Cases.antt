@@ -1,4 +1,4 @@
--- The rows that D 0 and D 2 read on network A, by the lists alone; their answers and rows are among the starred cases. Assumes nothing.
+-- The rows that D 0 and D 2 read on network A, by the lists alone; their answers and rows are among the starred cases.
 use mathlib.Core.Path.{_≡_, refl}
 use Rattle.tables.proofs.NetworkA.{networkA}
 use Rattle.lists.specs.Walk.{walk}

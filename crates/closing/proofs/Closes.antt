@@ -11,7 +11,7 @@ use Rattle.index.specs.declared.NodeIndex.{NodeIndex}
 use Rattle.index.specs.declared.EdgeDirection.{EdgeDirection}
 use Rattle.index.specs.declared.Refusal.{Refusal}
 use Rattle.index.specs.declared.Refusal.the-variants.{Short}
-use Rattle.tables.specs.Net.{Net, net, fits, nodeCell}
+use Rattle.tables.specs.Net.{Net, net, nodeCell}
 use Rattle.tables.specs.Rows.{nodeRow, vacantNode, headsWith, withNode}
 use Rattle.tables.specs.Answers.{out, done, refused, onto}
 use Rattle.tables.proofs.Laws.{Fit}

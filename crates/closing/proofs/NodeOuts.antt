@@ -1,7 +1,7 @@
 -- A node taken out of a sound network. It is served, with the weights that a walk around it gives before; the rows read are those that the lists say.
 -- The network is sound afterwards, and every list left keeps its other edges in their order: `node-out`. A refusal leaves all as it was,
 -- `node-refused`; so, whatever is answered, a sound network is left sound: `node-kept`. 6 is given exactly where it is not sound: `unsound-6`,
--- `six-unsound`. Assumes nothing.
+-- `six-unsound`.
 use Prim.Native.Nat.{ℕ, _+_, _*_, _-_, _≤_, _<_}
 use mathlib.Core.Path.{_≡_, refl, sym, ap, ap₂, _∙_, subst}
 use mathlib.Core.Bool.{true, cond}

@@ -1,4 +1,4 @@
--- No two answers of `remove_node` are told alike. Assumes nothing.
+-- No two answers of `remove_node` are told alike.
 use Prim.Native.Nat.{ℕ}
 use mathlib.Core.Path.{_≡_, refl}
 use lib.IntN.{ℤ, pos}

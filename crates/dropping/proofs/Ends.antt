@@ -1,4 +1,4 @@
--- The rows of a list get another end, one after the other. Assumes nothing.
+-- The rows of a list get another end, one after the other.
 use Prim.Native.Nat.{ℕ, _-_}
 use mathlib.Core.Path.{_≡_, refl, ap, _∙_}
 use mathlib.Core.List.{List, [], _∷_, _++_, append-nil}

@@ -1,4 +1,4 @@
--- An answer 0 of a read or a write, and the rows of an image read into tables with room. Assumes nothing.
+-- An answer 0 of a read or a write, and the rows of an image read into tables with room.
 use Prim.{tt}
 use Prim.Native.Nat.{ℕ, _≤_}
 use mathlib.Core.Path.{_≡_, refl, ap, _∙_}

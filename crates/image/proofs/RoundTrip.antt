@@ -1,6 +1,6 @@
 -- An image written and read back gives the same rows: `written-read`. A file read and written back gives the same bytes: `read-written`.
 -- Nothing but an image is read: `only-images`, `read-image`. What a read leaves: `read-past`, `broken-vacated`, `refused-kept`, `vacated-node`,
--- `vacated-edge`. A write is refused 6 exactly where the network is not sound: `unsound-6`, `six-unsound`. Assumes nothing.
+-- `vacated-edge`. A write is refused 6 exactly where the network is not sound: `unsound-6`, `six-unsound`.
 use Prim.{Unit, tt}
 use Prim.Native.Nat.{ℕ, _≤_, _<_}
 use mathlib.Core.Path.{_≡_, refl, sym, ap, subst, _∙_}

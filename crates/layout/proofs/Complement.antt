@@ -1,4 +1,4 @@
--- Two's complement: 32 bits and the signed number that they have, as the code works them out. Assumes nothing.
+-- Two's complement: 32 bits and the signed number that they have, as the code works them out.
 use Prim.Native.Nat.{ℕ, suc, _+_, _-_, _^_, _≤_, _<_}
 use mathlib.Core.Path.{_≡_, refl, ap, _∙_}
 use mathlib.Core.Bool.{Bool, true, false, cond}

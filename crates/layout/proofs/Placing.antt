@@ -1,4 +1,4 @@
--- Bytes put in one after the other, and a number read at a place. Assumes nothing.
+-- Bytes put in one after the other, and a number read at a place.
 use Prim.Native.Nat.{ℕ, suc, _+_, _*_, _/_, _%_, _≤_}
 use mathlib.Core.Path.{_≡_, refl, sym, ap, ap₂, _∙_}
 use mathlib.Core.List.{List, [], _∷_, _++_, append-assoc}

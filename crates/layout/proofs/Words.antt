@@ -1,4 +1,4 @@
--- A number in four bytes and back, a row in its bytes and back. Assumes nothing.
+-- A number in four bytes and back, a row in its bytes and back.
 use Prim.Native.Nat.{ℕ, _+_, _^_, _≤_, _<_}
 use mathlib.Core.Path.{_≡_, refl, sym, ap, ap₂, _∙_}
 use mathlib.Core.List.{List, [], _∷_, _++_}

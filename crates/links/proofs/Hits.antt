@@ -1,4 +1,4 @@
--- What a search that succeeds tells, on any tables: the link at its spot is e, the tables have that spot, the rows are few. Assumes nothing.
+-- What a search that succeeds tells, on any tables: the link at its spot is e, the tables have that spot, the rows are few.
 use Prim.Native.Nat.{ℕ, zero, suc, _+_, _*_, _≤_, _<_}
 use mathlib.Core.Path.{_≡_, refl, sym, _∙_}
 use mathlib.Core.List.{List}

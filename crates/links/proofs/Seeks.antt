@@ -1,4 +1,4 @@
--- The clauses of `seek`, each under the facts that choose it; `link` is what stands at the spot s. Where a search starts: `seek-starts`, `seek-nowhere`. Assumes nothing.
+-- The clauses of `seek`, each under the facts that choose it; `link` is what stands at the spot s. Where a search starts: `seek-starts`, `seek-nowhere`.
 use Prim.Native.Nat.{ℕ, zero, suc, _+_, _-_, _≤_, _<_}
 use mathlib.Core.Path.{_≡_}
 use native.Mathlib.Omega.{arith}

@@ -1,5 +1,5 @@
 -- The rows that taking out an edge reads, where no list has more than D edges: at most 4 (D - 1), `most-rows`, and 3 (D - 1) where it is the
--- first edge of a list, `most-rows-first`. Assumes nothing.
+-- first edge of a list, `most-rows-first`.
 use Prim.Native.Nat.{ℕ, _+_, _*_, _-_, _≤_, _<_}
 use mathlib.Core.Path.{_≡_, sym}
 use mathlib.Core.Bool.{true}

@@ -1,5 +1,5 @@
 -- One direction: an edge is bypassed, `bypassing`, and then the last row takes its number, `moving`. What the links and the ends are
--- afterwards is asked for at each spot and row; what the lists are then is said. Assumes nothing.
+-- afterwards is asked for at each spot and row; what the lists are then is said.
 use Prim.Native.Nat.{ℕ, _+_, _≤_, _<_}
 use mathlib.Core.Path.{_≡_, refl, ap, _∙_}
 use mathlib.Core.Logic.{inl, inr}

@@ -1,6 +1,6 @@
 -- An edge taken out of a sound network. It is served, and the rows read are those before it in its two lists, then, with it gone, those before
 -- the row that moves. The network is sound afterwards, and every list keeps its other edges in their order: `taken-out`, `edge-out`. A refusal
--- leaves all as it was, `edge-refused`; so, whatever is answered, a sound network is left sound: `edge-kept`. Assumes nothing.
+-- leaves all as it was, `edge-refused`; so, whatever is answered, a sound network is left sound: `edge-kept`.
 use Prim.Native.Nat.{ℕ, _+_, _-_, _<_}
 use mathlib.Core.Path.{_≡_, refl, sym, ap, ap₂, _∙_, subst}
 use mathlib.Core.Bool.{true, cond}

@@ -1,4 +1,4 @@
--- The members of a list without an edge, and of one whose rows are renamed; how far a member stands from the front. Assumes nothing.
+-- The members of a list without an edge, and of one whose rows are renamed; how far a member stands from the front.
 use Prim.Native.Nat.{ℕ, _≤_, _<_}
 use mathlib.Core.Path.{_≡_, refl, sym, ap, _∙_}
 use mathlib.Core.Logic.{inl, inr, ⊎-elim}

@@ -1,4 +1,4 @@
--- In a chain one spot leads to each member, and no other does; a search finds it, at the member's position. Assumes nothing.
+-- In a chain one spot leads to each member, and no other does; a search finds it, at the member's position.
 use Prim.Native.Nat.{ℕ, zero, suc, _+_, _≤_, _<_}
 use mathlib.Core.Path.{_≡_, refl, sym, _∙_}
 use mathlib.Core.Logic.{inl, inr}

@@ -1,5 +1,5 @@
 -- What is stored by a removal, cell by cell and in either direction: links led elsewhere, `led-link`; the last row vacant, `last-out`, or moved
--- into another's place, `last-into`. Assumes nothing.
+-- into another's place, `last-into`.
 use Prim.Native.Nat.{ℕ, _*_, _≤_, _<_}
 use mathlib.Core.Path.{_≡_, refl, _∙_}
 use mathlib.Core.Bool.{true}

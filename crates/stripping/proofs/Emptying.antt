@@ -1,4 +1,4 @@
--- A list is emptied, head after head: what the turns come to is what the definitions over lists say. Assumes nothing.
+-- A list is emptied, head after head: what the turns come to is what the definitions over lists say.
 use Prim.Native.Nat.{ℕ, zero, suc, _+_, _*_, _-_, _≤_, _<_}
 use mathlib.Core.Path.{_≡_, refl, sym, ap, _∙_, subst}
 use mathlib.Core.Logic.{inl, inr}

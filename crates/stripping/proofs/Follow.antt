@@ -1,4 +1,4 @@
--- An edge goes from a network that is held by its lists: the lists left hold what is left, and the other edges follow. Assumes nothing.
+-- An edge goes from a network that is held by its lists: the lists left hold what is left, and the other edges follow.
 use Prim.Native.Nat.{ℕ, _+_, _-_, _<_}
 use mathlib.Core.Path.{_≡_, refl, sym, ap, ap₂, _∙_, subst}
 use mathlib.Core.Bool.{Bool, true, false, cond, not, _&&_}

@@ -1,4 +1,4 @@
--- One turn of the stripping: the head of node a's list of direction k is taken out. Assumes nothing.
+-- One turn of the stripping: the head of node a's list of direction k is taken out.
 use Prim.Native.Nat.{ℕ, zero, suc, _+_, _*_, _-_, _≤_, _<_}
 use mathlib.Core.Path.{_≡_, refl, sym, ap, _∙_, subst}
 use mathlib.Core.Bool.{true, false}

@@ -1,4 +1,4 @@
--- The items of a list that satisfy a test: under new numbers, without one that does not, of those left by another test. Assumes nothing.
+-- The items of a list that satisfy a test: under new numbers, without one that does not, of those left by another test.
 use Prim.Native.Nat.{ℕ, _≤_}
 use mathlib.Core.Path.{_≡_, refl, ap, ap₂, _∙_}
 use mathlib.Core.Logic.{inl, inr, ⊎-elim}

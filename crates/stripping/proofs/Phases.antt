@@ -1,4 +1,4 @@
--- The stripping, one direction after the other. Assumes nothing.
+-- The stripping, one direction after the other.
 use Prim.Native.Nat.{ℕ, zero, suc, _+_, _*_, _-_, _≤_, _<_}
 use mathlib.Core.Path.{_≡_, refl, sym, ap, _∙_}
 use mathlib.Core.Bool.{true, false}

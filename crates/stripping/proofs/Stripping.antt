@@ -1,6 +1,6 @@
 -- A node stripped of its edges. The weights given are those that a walk around the node gives before, `given-are`; the rows read are those that the
 -- lists say, `strip-rows`, `strip-most`; the network left fits, is sound and has no edge at the node, `strip-fits`, `strip-sound`, `strip-edges`,
--- `strip-bare`; and its edges are the others in their order, `strip-follows`. Assumes nothing.
+-- `strip-bare`; and its edges are the others in their order, `strip-follows`.
 use Prim.Native.Nat.{ℕ, _+_, _*_, _-_, _≤_, _<_}
 use mathlib.Core.Path.{_≡_, refl, sym, ap, ap₂, _∙_}
 use mathlib.Core.Bool.{Bool, true, not, _&&_}

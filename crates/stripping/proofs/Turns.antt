@@ -1,4 +1,4 @@
--- One turn of the stripping takes out the first edge of a list: `head-out`; where there is none, the list is emptied: `emptied-done`. Assumes nothing.
+-- One turn of the stripping takes out the first edge of a list: `head-out`; where there is none, the list is emptied: `emptied-done`.
 use Prim.Native.Nat.{ℕ, zero, suc, _≤_, _<_}
 use mathlib.Core.Path.{_≡_, refl}
 use mathlib.Core.Bool.{true}

@@ -1,7 +1,5 @@
 -- `image_write` meets its contract: `guards` finds each test's fact; past the tests the image is given.
-use Prim.Native.Nat.{ℕ}
 use mathlib.Core.Path.{_≡_, _∙_}
-use mathlib.Core.List.{List}
 use native.Mathlib.Omega.{arith}
 use borrow.Author.Needs.{needs}
 use denote.Ref.{now}

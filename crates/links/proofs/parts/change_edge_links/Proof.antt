@@ -1,162 +1,144 @@
--- `change_edge_links` meets its contract.
+-- `change_edge_links` meets its contract: each end is what `located` says of the columns at entry.
 use mathlib.Core.Path.{refl, sym, ap, _∙_}
 use native.Mathlib.Omega.{arith}
+use borrow.Author.Needs.{needs}
 use lib.ListN.{getD}
 use Rattle.tables.specs.Net.{nodeCell}
 use Rattle.lists.specs.declared.Spot.the-variants.{Head}
 use Rattle.links.proofs.Hits.{place-of, place-kept}
-use Rattle.links.proofs.Walks.{incoming-as-before, no-source, no-target, not-met, outgoing-hit, incoming-hit, both-met, second-not-met, heads-again, links-again}
-use borrow.Author.Needs.{needs}
+use Rattle.links.proofs.Walks.{no-source, no-target, not-met, outgoing-hit, as-before, incoming-hit, both-met, second-not-met}
 use Rattle.links.proofs.parts.change_edge_links.Statement.{statement}
 use Rattle.links.proofs.parts.change_edge_links.Tie as tie
 
--- the way back to the start, past the calls
+-- the way back from the walks: to both ends, to the source, to the row, to the start
 abbrev begin : tie.After-index → tie.Start
 begin c = search
 
+abbrev row : tie.Else1 → tie.After-index
+row c = search
+
+abbrev source : tie.Else2 → tie.Else1
+source c = search
+
+abbrev target : tie.After-change-link → tie.Else2
+target c = search
+
+abbrev first : tie.After-s → tie.After-change-link
+first c = search
+
+abbrev met : tie.After-change-link2 → tie.After-s
+met c = search
+
 returns : tie.Need-returns
 returns c =
-    let after-index : tie.After-index = search in
-    record { answer-is = no-source _ _ _ _ _ _ _ (after-index .index .ensures) (c .if1 .taken); heads-are = refl; links-are = refl }
+    let i : tie.After-index = search in
+    record { answer-is = no-source _ _ _ _ _ _ _ (i .index .ensures) (c .if1 .taken); heads-are = refl; links-are = refl }
 
 returns-2 : tie.Need-returns-2
 returns-2 c =
-    let after-index : tie.After-index = search in
-    record { answer-is = no-target _ _ _ _ _ _ _ (after-index .index .ensures) (c .if2 .taken); heads-are = refl; links-are = refl }
+    let i : tie.After-index = search in
+    record { answer-is = no-target _ _ _ _ _ _ _ (i .index .ensures) (c .if2 .taken); heads-are = refl; links-are = refl }
 
 change-link-requires : tie.Need-change-link-requires
 change-link-requires c κs =
-    let after-index2 : tie.After-index2 = search in
-    let else1 : tie.Else1 = search in
-    let start : tie.Start = search in
-    let p = start .pre in
+    let i : tie.After-index2 = search in
+    let a : tie.Else1 = search in
+    let s = begin (row a) in
     record {
       direction = omega arith;
-      head = omega (arith, else1 .if1 .left, p .heads-hold);
-      first-is = ap (λ i. getD (start .args .heads .now) (nodeCell i 0) 0) (sym (after-index2 .index2 .ensures));
-      links-hold = p .links-hold;
+      head = omega (arith, a .if1 .left, s .pre .heads-hold);
+      first-is = ap (λ i. getD (s .args .heads .now) (nodeCell i 0) 0) (sym (i .index2 .ensures));
+      links-hold = s .pre .links-hold;
     }
 
 change-link-requires-2 : tie.Need-change-link-requires-2
 change-link-requires-2 c κs =
-    let after-s : tie.After-s = search in
-    let after-change-link : tie.After-change-link = search in
-    let after-index3 : tie.After-index3 = search in
-    let else2 : tie.Else2 = search in
-    let after-index : tie.After-index = search in
-    let start = begin after-index in
-    let p = start .pre in
-    let f = after-change-link .change-link .ensures in
-    let k = after-change-link .change-link .kept in
-    let z = after-s .s .given .1 in
-    let as-before = incoming-as-before _ _ _ _ _ _ (rw z at (f .heads-are)) (rw z at (f .links-are)) in
+    let y : tie.After-s = search in
+    let j : tie.After-index3 = search in
+    let d = first y in
+    let b = target d in
+    let i = row (source b) in
+    let s = begin i in
+    let f = d .change-link .ensures in
+    let k = d .change-link .kept in
+    let same = as-before _ _ (s .args .ends .now) _ _ _ _ (i .index .ensures) _ (source b .if1 .left) _ _ _ (f .answer-is) (f .heads-are) (f .links-are) _ _ (y .s .given .1) in
     record {
       direction = omega arith;
-      head = omega (arith, k .0, else2 .if2 .left, p .heads-hold);
-      first-is = rw (← after-index3 .index3 .ensures) (ap (λ lk. lk (Head (after-index3 .index3 .result))) as-before);
-      links-hold = omega (arith, k .1 .0, p .links-hold);
+      head = omega (arith, k .0, b .if2 .left, s .pre .heads-hold);
+      first-is = rw (← j .index3 .ensures) (ap (λ lk. lk (Head (j .index3 .result))) same);
+      links-hold = omega (arith, k .1 .0, s .pre .links-hold);
     }
 
 relink-requires : tie.Need-relink-requires
 relink-requires c κs =
-    let after-change-link2 : tie.After-change-link2 = search in
-    let after-s : tie.After-s = search in
-    let after-change-link : tie.After-change-link = search in
-    let else1 : tie.Else1 = search in
-    let after-index : tie.After-index = search in
-    let start : tie.Start = search in
-    let p = start .pre in
-    let k = after-change-link .change-link .kept in
-    let l = after-change-link2 .change-link2 .kept in
-    let h = outgoing-hit _ _ (start .args .ends .now) _ _ _ _ (after-index .index .ensures) (else1 .if1 .left) _ _ _ (after-change-link .change-link .ensures .answer-is) (after-s .s .given .1) in
-    place-kept 0 _ (l .0 ∙ k .0) (l .1 .0 ∙ k .1 .0) (place-of _ _ _ _ 0 (omega arith) (p .heads-hold) (p .links-hold) _ (h .spot))
+    let g : tie.After-change-link2 = search in
+    let y = met g in
+    let d = first y in
+    let a = source (target d) in
+    let s = begin (row a) in
+    let f = d .change-link .ensures in
+    let k = d .change-link .kept in
+    let l = g .change-link2 .kept in
+    let h = outgoing-hit _ _ (s .args .ends .now) _ _ _ _ (row a .index .ensures) _ (a .if1 .left) _ _ _ (f .answer-is) (f .heads-are) (f .links-are) _ _ (y .s .given .1) in
+    place-kept 0 _ (l .0 ∙ k .0) (l .1 .0 ∙ k .1 .0) (place-of _ _ _ _ 0 (omega arith) (s .pre .heads-hold) (s .pre .links-hold) _ (h .spot))
 
 add-t45 : tie.Need-add-t45
 add-t45 c =
-    let after-change-link2 : tie.After-change-link2 = search in
-    let after-s : tie.After-s = search in
-    let after-change-link : tie.After-change-link = search in
-    let else2 : tie.Else2 = search in
-    let else1 : tie.Else1 = search in
-    let after-index : tie.After-index = search in
-    let start : tie.Start = search in
-    let E = start .args .ends .now in
-    let x = after-index .index .ensures in
-    let a = else1 .if1 .left in
-    let b = else2 .if2 .left in
-    let f = after-change-link .change-link .ensures in
-    let g = after-change-link2 .change-link2 .ensures in
-    let y = after-s .s .given .1 in
-    let z = c .before .t .given .1 in
-    let hs = rw y at (f .heads-are) in
-    let ls = rw y at (f .links-are) in
-    let h = outgoing-hit _ _ E _ _ _ _ x a _ _ _ (f .answer-is) y in
-    let i = incoming-hit _ _ E _ _ _ _ x a _ _ _ (f .answer-is) y _ _ _ hs ls b _ (g .answer-is) _ _ z in
-    record { fits = omega (arith, h .few, i .few, start .pre .edges-most) }
+    let o : tie.After-change-link2 = search in
+    let y = met o in
+    let d = first y in
+    let b = target d in
+    let a = source b in
+    let s = begin (row a) in
+    let E = s .args .ends .now in
+    let x = row a .index .ensures in
+    let f = d .change-link .ensures in
+    let g = o .change-link2 .ensures in
+    let z = y .s .given .1 in
+    let h = outgoing-hit _ _ E _ _ _ _ x _ (a .if1 .left) _ _ _ (f .answer-is) (f .heads-are) (f .links-are) _ _ z in
+    let i =
+    incoming-hit _ _ E _ _ _ _ x _ (a .if1 .left) _ _ _ (f .answer-is) (f .heads-are) (f .links-are) _ _ z _ (b .if2 .left) _ _ _
+    (g .answer-is) (g .heads-are) (g .links-are) _ _ (c .before .t .given .1) in
+    record { fits = omega (arith, h .few, i .few, s .pre .edges-most) }
 
 returns-3 : tie.Need-returns-3
 returns-3 c =
-    let after-change-link : tie.After-change-link = search in
-    let else1 : tie.Else1 = search in
-    let after-index : tie.After-index = search in
-    let f = after-change-link .change-link .ensures in
-    let z = c .enum-told .given .1 in
-    record {
-      answer-is = not-met _ _ _ _ _ _ _ (after-index .index .ensures) (else1 .if1 .left) _ (f .answer-is) z;
-      heads-are = rw z at (f .heads-are);
-      links-are = rw z at (f .links-are);
-    }
+    let d : tie.After-change-link = search in
+    let a = source (target d) in
+    let f = d .change-link .ensures in
+    let t = not-met _ _ (begin (row a) .args .ends .now) _ _ _ _ (row a .index .ensures) _ (a .if1 .left) _ _ _ (f .answer-is) (f .heads-are) (f .links-are) (c .enum-told .given .1) in
+    record { answer-is = t .0; heads-are = t .1; links-are = t .2 }
 
 returns-4 : tie.Need-returns-4
 returns-4 c =
-    let after-relink : tie.After-relink = search in
-    let after-enum-told2 : tie.After-enum-told2 = search in
-    let after-change-link2 : tie.After-change-link2 = search in
-    let after-s : tie.After-s = search in
-    let after-change-link : tie.After-change-link = search in
-    let else2 : tie.Else2 = search in
-    let else1 : tie.Else1 = search in
-    let after-index : tie.After-index = search in
-    let start : tie.Start = search in
-    let E = start .args .ends .now in
-    let x = after-index .index .ensures in
-    let a = else1 .if1 .left in
-    let b = else2 .if2 .left in
-    let f = after-change-link .change-link .ensures in
-    let g = after-change-link2 .change-link2 .ensures in
-    let h = after-relink .relink .ensures in
-    let y = after-s .s .given .1 in
-    let z = after-enum-told2 .enum-told2 .given .1 in
-    let hs = rw y at (f .heads-are) in
-    let ls = rw y at (f .links-are) in
-    record {
-      answer-is = second-not-met _ _ _ _ _ _ _ x a _ _ _ (f .answer-is) y _ _ _ hs ls b _ (g .answer-is) z;
-      heads-are = heads-again _ _ E _ _ _ _ x a _ _ _ (f .answer-is) y _ _ _ hs ls _ (rw (rw z at (g .heads-are)) at (h .0));
-      links-are = links-again _ _ E _ _ _ _ x a _ _ _ (f .answer-is) y _ _ _ hs ls _ (rw (rw z at (g .links-are)) at (h .1));
-    }
+    let r : tie.After-relink = search in
+    let u : tie.After-enum-told2 = search in
+    let o : tie.After-change-link2 = search in
+    let y = met o in
+    let d = first y in
+    let b = target d in
+    let a = source b in
+    let f = d .change-link .ensures in
+    let g = o .change-link2 .ensures in
+    let h = r .relink .ensures in
+    let t =
+    second-not-met _ _ (begin (row a) .args .ends .now) _ _ _ _ (row a .index .ensures) _ (a .if1 .left) _ _ _ (f .answer-is) (f .heads-are) (f .links-are) _ _
+    (y .s .given .1) _ (b .if2 .left) _ _ _ (g .answer-is) (g .heads-are) (g .links-are) _ _ (u .enum-told2 .given .1) (h .0) (h .1) in
+    record { answer-is = t .0; heads-are = t .1; links-are = t .2 }
 
 returns-5 : tie.Need-returns-5
 returns-5 c =
-    let after-change-link2 : tie.After-change-link2 = search in
-    let after-s : tie.After-s = search in
-    let after-change-link : tie.After-change-link = search in
-    let else2 : tie.Else2 = search in
-    let else1 : tie.Else1 = search in
-    let after-index : tie.After-index = search in
-    let x = after-index .index .ensures in
-    let a = else1 .if1 .left in
-    let b = else2 .if2 .left in
-    let f = after-change-link .change-link .ensures in
-    let g = after-change-link2 .change-link2 .ensures in
-    let y = after-s .s .given .1 in
-    let z = c .before .t .given .1 in
-    let hs = rw y at (f .heads-are) in
-    let ls = rw y at (f .links-are) in
-    record {
-      answer-is = both-met _ _ _ _ _ _ _ x a _ _ _ (f .answer-is) y _ _ _ hs ls b _ (g .answer-is) _ _ z;
-      heads-are = rw hs at (rw z at (g .heads-are));
-      links-are = rw ls at (rw z at (g .links-are));
-    }
+    let o : tie.After-change-link2 = search in
+    let y = met o in
+    let d = first y in
+    let b = target d in
+    let a = source b in
+    let f = d .change-link .ensures in
+    let g = o .change-link2 .ensures in
+    let t =
+    both-met _ _ (begin (row a) .args .ends .now) _ _ _ _ (row a .index .ensures) _ (a .if1 .left) _ _ _ (f .answer-is) (f .heads-are) (f .links-are) _ _
+    (y .s .given .1) _ (b .if2 .left) _ _ _ (g .answer-is) (g .heads-are) (g .links-are) _ _ (c .before .t .given .1) in
+    record { answer-is = t .0; heads-are = t .1; links-are = t .2 }
 
 pub change-edge-links-spec : {M : Type 1} → statement M
 change-edge-links-spec =

@@ -7,7 +7,7 @@ use native.Mathlib.Omega.{arith}
 use borrow.Author.Needs.{needs}
 use lib.ListN.{length, getD}
 use Rattle.index.specs.Index.{isEnd, numberOf}
-use Rattle.tables.specs.Net.{nodeCell}
+use Rattle.tables.specs.Net.{nodeRows, nodeCells, nodeCell}
 use Rattle.lists.specs.declared.Spot.the-variants.{Head}
 use Rattle.lists.specs.Walk.{linkIn}
 use Rattle.stripping.proofs.Headwise.{head-is, number-of-all, head-cell, Turned, turned-begins, removable-so, served-so, turned-by}
@@ -72,7 +72,7 @@ counts c =
 
 -- the head's cell is there, and the head is what it holds
 cell-there : (c : Number) → let d : tie.After-index Inv-heads μ-heads Inv-loop μ-loop = search in let h = reading c in
-    (nodeCell (d .index .result) (c .number .result) < length (h .heads .heads)) × (nodeCell (d .index .result) (c .number .result) < 32768)
+    (nodeCell (d .index .result) (c .number .result) < length (h .heads .heads)) × (nodeCell (d .index .result) (c .number .result) < nodeCells * nodeRows)
 cell-there c =
     let d : tie.After-index Inv-heads μ-heads Inv-loop μ-loop = search in
     let h = reading c in
