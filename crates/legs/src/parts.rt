@@ -9,11 +9,11 @@ ghost use Rattle.legs.specs.Legs.{legAt, legsGive, legsTold, edgesTold, 
 use index::NodeIndex;
 use index::Refusal;
 use lists::Counted;
-use lists::Extent;
+use lists::Extents;
 use lists::Item;
 use lists::Pick;
 use lists::parts::count;
-use lists::parts::count_rows;
+use lists::parts::count_both;
 use lists::parts::count_taken;
 use lists::parts::give;
 use tables::Items;
@@ -74,12 +74,8 @@ fn prepare(links: &[u32], ends: &[u32], m: u32, first: Leg, second: Leg, room: u
     requires { ⌜ Legs m (length (now links)) (length (now ends)) m first second ⌝ }
     ensures { λ r. ⌜ r ≡ prepared (now (links .entry)) (now (ends .entry)) m first second room ⌝ }
 {
-    let extent = count_rows(links, m, first.k, first.link);
-    let Extent::Rows(rows) = extent else {
-        return Prepared::Broken;
-    };
-    let extent = count_rows(links, m, second.k, second.link);
-    let Extent::Rows(others) = extent else {
+    let extents = count_both(links, m, first.k, first.link, second.k, second.link);
+    let Extents::Rows(rows, others) = extents else {
         return Prepared::Broken;
     };
     // There are no more items than rows, so they are counted for a shorter table alone.

@@ -40,6 +40,12 @@ pub enum Extent {
     Broken,
 }
 
+// How many rows each of two lists has, where both end within m of them.
+pub enum Extents {
+    Rows(u32, u32),
+    Broken,
+}
+
 // How many rows a list has, then how many of them a walk takes.
 pub enum Counted {
     Rows(u32, u32),
