@@ -15,33 +15,17 @@ use Rattle.lists.specs.declared.Item.{Item}
 use Rattle.lists.specs.declared.Item.the-variants.{Number, Near, Far}
 use Rattle.lists.specs.declared.Extents.{Extents}
 use Rattle.lists.specs.declared.Extents.the-variants as Extents·
-use Rattle.lists.specs.declared.Counted.{Counted}
-use Rattle.lists.specs.declared.Counted.the-variants as Counted·
 use Rattle.lists.specs.Walk.{cell, picked, rowsFrom, stopFrom, itemOf}
-use Rattle.lists.specs.Parts.{extentsOf, countOf, written}
-use Rattle.lists.proofs.Counts.{filter-length, extents-broken, extents-rows, count-broken, count-rows}
+use Rattle.lists.specs.Parts.{extentsOf, written}
+use Rattle.lists.proofs.Counts.{filter-length, extents-broken, extents-rows}
 use Rattle.lists.proofs.Gives.{walk-length}
 use Rattle.legs.specs.declared.parts.Leg.{Leg}
+use Rattle.legs.specs.declared.parts.Settled.the-variants as Settled·
 use Rattle.legs.specs.declared.parts.Prepared.{Prepared}
 use Rattle.legs.specs.declared.parts.Prepared.the-variants as Prepared·
-use Rattle.legs.specs.Legs.{legTakes, legGives, legsGive, legEnds, legsTold, prepared, least, Tables3, tables3, roomFor, edgesTold}
-
--- a list that ends, with so many rows, of which a leg takes so many
-abbrev pub Counts : List ℕ → List ℕ → ℕ → Leg → (rows items : ℕ) → Type 0
-Counts links ends m leg rows items =
-    (ltb (stopFrom links m (leg .k) (leg .link)) m ≡ false) × (length (rowsFrom links m (leg .k) (leg .link)) ≡ rows) × (length (legTakes links ends m leg) ≡ items)
-
--- what counting a leg says of it
-abbrev countAt : List ℕ → List ℕ → ℕ → Leg → Counted
-countAt links ends m leg = countOf (rowsFrom links m (leg .k) (leg .link)) (legTakes links ends m leg) m (stopFrom links m (leg .k) (leg .link))
+use Rattle.legs.specs.Legs.{legTakes, legGives, legsGive, legEnds, legsTold, settled, prepared, least, Tables3, tables3, roomFor, edgesTold}
 
 module _ (links ends : List ℕ) (m : ℕ) (leg : Leg) where
-  pub leg-broken : countAt links ends m leg ≡ Counted·.Broken → ltb (stopFrom links m (leg .k) (leg .link)) m ≡ true
-  leg-broken = count-broken _ _ _ _
-
-  pub leg-counted : {rows items : ℕ} → countAt links ends m leg ≡ Counted·.Rows rows items → Counts links ends m leg rows items
-  leg-counted = count-rows _ _ _ _
-
   -- a leg takes no more items than its list has rows, and there are at most m
   pub items-few : length (legTakes links ends m leg) ≤ length (rowsFrom links m (leg .k) (leg .link))
   items-few = filter-length (λ x. picked (leg .pick) (cell ends (1 - leg .k) x)) (rowsFrom links m (leg .k) (leg .link))
@@ -66,6 +50,14 @@ pub both-known : (links : List ℕ) (m : ℕ) (first second : Leg) {rows others 
 both-known links m first second h =
     let e = extents-rows _ _ _ _ _ h in
     record { both-end = e .0; first-rows = e .1; second-rows = e .2 }
+
+module _ (links ends : List ℕ) (m : ℕ) (first second : Leg) where
+  pub none-settled : extentsAt links m first second ≡ Extents·.Broken → Settled·.Broken ≡ settled links ends m first second
+  none-settled h = rw (extents-broken _ _ _ _ _ h)
+
+  pub both-settled : {rows others mid more : ℕ} → Both links m first second rows others → mid ≡ length (legTakes links ends m first) → more ≡ length (legTakes links ends m second)
+      → Settled·.Rows rows mid others (mid + more) ≡ settled links ends m first second
+  both-settled b p q = rw (b .both-end, b .first-rows, b .second-rows, p, q)
 
 module _ (links ends : List ℕ) (m : ℕ) (first second : Leg) (room : ℕ) where
   pub one-broken : extentsAt links m first second ≡ Extents·.Broken → Prepared·.Broken ≡ prepared links ends m first second room
