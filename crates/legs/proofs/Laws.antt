@@ -13,35 +13,19 @@ use Rattle.index.specs.declared.Refusal.the-variants.{Broken, Short}
 use Rattle.tables.specs.Answers.{Out, out, done, refused, unless, onto}
 use Rattle.lists.specs.declared.Item.{Item}
 use Rattle.lists.specs.declared.Item.the-variants.{Number, Near, Far}
-use Rattle.lists.specs.declared.Extent.{Extent}
-use Rattle.lists.specs.declared.Extent.the-variants as Extent·
-use Rattle.lists.specs.declared.Counted.{Counted}
-use Rattle.lists.specs.declared.Counted.the-variants as Counted·
+use Rattle.lists.specs.declared.Extents.{Extents}
+use Rattle.lists.specs.declared.Extents.the-variants as Extents·
 use Rattle.lists.specs.Walk.{cell, picked, rowsFrom, stopFrom, itemOf}
-use Rattle.lists.specs.Parts.{extentOf, countOf, written}
-use Rattle.lists.proofs.Counts.{filter-length, extent-broken, extent-rows, count-broken, count-rows}
+use Rattle.lists.specs.Parts.{extentsOf, written}
+use Rattle.lists.proofs.Counts.{filter-length, extents-broken, extents-rows}
 use Rattle.lists.proofs.Gives.{walk-length}
 use Rattle.legs.specs.declared.parts.Leg.{Leg}
+use Rattle.legs.specs.declared.parts.Settled.the-variants as Settled·
 use Rattle.legs.specs.declared.parts.Prepared.{Prepared}
 use Rattle.legs.specs.declared.parts.Prepared.the-variants as Prepared·
-use Rattle.legs.specs.Legs.{legTakes, legGives, legsGive, legEnds, legsTold, prepared, least, Tables3, tables3, roomFor, edgesTold}
-
--- a list that ends, with so many rows, of which a leg takes so many
-abbrev pub Counts : List ℕ → List ℕ → ℕ → Leg → (rows items : ℕ) → Type 0
-Counts links ends m leg rows items =
-    (ltb (stopFrom links m (leg .k) (leg .link)) m ≡ false) × (length (rowsFrom links m (leg .k) (leg .link)) ≡ rows) × (length (legTakes links ends m leg) ≡ items)
-
--- what counting a leg says of it
-abbrev countAt : List ℕ → List ℕ → ℕ → Leg → Counted
-countAt links ends m leg = countOf (rowsFrom links m (leg .k) (leg .link)) (legTakes links ends m leg) m (stopFrom links m (leg .k) (leg .link))
+use Rattle.legs.specs.Legs.{legTakes, legGives, legsGive, legEnds, legsTold, settled, prepared, least, Tables3, tables3, roomFor, edgesTold}
 
 module _ (links ends : List ℕ) (m : ℕ) (leg : Leg) where
-  pub leg-broken : countAt links ends m leg ≡ Counted·.Broken → ltb (stopFrom links m (leg .k) (leg .link)) m ≡ true
-  leg-broken = count-broken _ _ _ _
-
-  pub leg-counted : {rows items : ℕ} → countAt links ends m leg ≡ Counted·.Rows rows items → Counts links ends m leg rows items
-  leg-counted = count-rows _ _ _ _
-
   -- a leg takes no more items than its list has rows, and there are at most m
   pub items-few : length (legTakes links ends m leg) ≤ length (rowsFrom links m (leg .k) (leg .link))
   items-few = filter-length (λ x. picked (leg .pick) (cell ends (1 - leg .k) x)) (rowsFrom links m (leg .k) (leg .link))
@@ -55,26 +39,30 @@ pub record Both (links : List ℕ) (m : ℕ) (first second : Leg) (rows others :
   pub first-rows : length (rowsFrom links m (first .k) (first .link)) ≡ rows
   pub second-rows : length (rowsFrom links m (second .k) (second .link)) ≡ others
 
--- how far a leg's list goes, and what it says of the legs
-abbrev extentAt : List ℕ → ℕ → Leg → Extent
-extentAt links m leg = extentOf (rowsFrom links m (leg .k) (leg .link)) m (stopFrom links m (leg .k) (leg .link))
+-- what the extents of their lists say of two legs
+abbrev extentsAt : List ℕ → ℕ → Leg → Leg → Extents
+extentsAt links m first second =
+    extentsOf (rowsFrom links m (first .k) (first .link)) (stopFrom links m (first .k) (first .link))
+    (rowsFrom links m (second .k) (second .link)) (stopFrom links m (second .k) (second .link)) m
 
-pub both-known : (links : List ℕ) (m : ℕ) (first second : Leg) {rows others : ℕ} → extentAt links m first ≡ Extent·.Rows rows → extentAt links m second ≡ Extent·.Rows others
+pub both-known : (links : List ℕ) (m : ℕ) (first second : Leg) {rows others : ℕ} → extentsAt links m first second ≡ Extents·.Rows rows others
     → Both links m first second rows others
-both-known links m first second f s =
-    let u = extent-rows _ _ _ f in
-    let v = extent-rows _ _ _ s in
-    record { both-end = rw (u .0, v .0); first-rows = u .1; second-rows = v .1 }
+both-known links m first second h =
+    let e = extents-rows _ _ _ _ _ h in
+    record { both-end = e .0; first-rows = e .1; second-rows = e .2 }
+
+module _ (links ends : List ℕ) (m : ℕ) (first second : Leg) where
+  pub none-settled : extentsAt links m first second ≡ Extents·.Broken → Settled·.Broken ≡ settled links ends m first second
+  none-settled h = rw (extents-broken _ _ _ _ _ h)
+
+  pub both-settled : {rows others mid more : ℕ} → Both links m first second rows others → mid ≡ length (legTakes links ends m first) → more ≡ length (legTakes links ends m second)
+      → Settled·.Rows rows mid others (mid + more) ≡ settled links ends m first second
+  both-settled b p q = rw (b .both-end, b .first-rows, b .second-rows, p, q)
 
 module _ (links ends : List ℕ) (m : ℕ) (first second : Leg) (room : ℕ) where
-  pub first-broken : extentAt links m first ≡ Extent·.Broken → Prepared·.Broken ≡ prepared links ends m first second room
+  pub one-broken : extentsAt links m first second ≡ Extents·.Broken → Prepared·.Broken ≡ prepared links ends m first second room
   unfolding prepared
-  first-broken h = rw (extent-broken _ _ _ h)
-
-  pub second-broken : {rows : ℕ} → extentAt links m first ≡ Extent·.Rows rows → extentAt links m second ≡ Extent·.Broken
-      → Prepared·.Broken ≡ prepared links ends m first second room
-  unfolding prepared
-  second-broken f h = rw (extent-rows _ _ _ f .0, extent-broken _ _ _ h)
+  one-broken h = rw (extents-broken _ _ _ _ _ h)
 
   module _ {rows others : ℕ} (b : Both links m first second rows others) where
     pub room-for-items : length (legTakes links ends m first) + length (legTakes links ends m second) ≤ room

@@ -8,12 +8,10 @@ ghost use Rattle.lists.specs.Parts.{written};
 ghost use Rattle.legs.specs.Legs.{legAt, legsGive, legsTold, edgesTold, tables3, settled, prepared, least, Legs, Ready};
 use index::NodeIndex;
 use index::Refusal;
-use lists::Counted;
-use lists::Extent;
+use lists::Extents;
 use lists::Item;
 use lists::Pick;
-use lists::parts::count;
-use lists::parts::count_rows;
+use lists::parts::count_both;
 use lists::parts::count_taken;
 use lists::parts::give;
 use tables::Items;
@@ -49,16 +47,14 @@ pub fn settle(links: &[u32], ends: &[u32], m: u32, first: Leg, second: Leg) -> S
     requires { ⌜ Legs m (length (now links)) (length (now ends)) m first second ⌝ }
     ensures { λ r. ⌜ r ≡ settled (now (links .entry)) (now (ends .entry)) m first second ⌝ }
 {
+    let extents = count_both(links, m, first.k, first.link, second.k, second.link);
+    let Extents::Rows(rows, others) = extents else {
+        return Settled::Broken;
+    };
     let pick = first.pick;
-    let counted = count(links, ends, m, first.k, pick, first.link);
-    let Counted::Rows(rows, mid) = counted else {
-        return Settled::Broken;
-    };
+    let mid = count_taken(links, ends, m, first.k, pick, first.link, rows);
     let pick = second.pick;
-    let counted = count(links, ends, m, second.k, pick, second.link);
-    let Counted::Rows(others, more) = counted else {
-        return Settled::Broken;
-    };
+    let more = count_taken(links, ends, m, second.k, pick, second.link, others);
     Settled::Rows(rows, mid, others, mid + more)
 }
 
@@ -74,12 +70,8 @@ fn prepare(links: &[u32], ends: &[u32], m: u32, first: Leg, second: Leg, room: u
     requires { ⌜ Legs m (length (now links)) (length (now ends)) m first second ⌝ }
     ensures { λ r. ⌜ r ≡ prepared (now (links .entry)) (now (ends .entry)) m first second room ⌝ }
 {
-    let extent = count_rows(links, m, first.k, first.link);
-    let Extent::Rows(rows) = extent else {
-        return Prepared::Broken;
-    };
-    let extent = count_rows(links, m, second.k, second.link);
-    let Extent::Rows(others) = extent else {
+    let extents = count_both(links, m, first.k, first.link, second.k, second.link);
+    let Extents::Rows(rows, others) = extents else {
         return Prepared::Broken;
     };
     // There are no more items than rows, so they are counted for a shorter table alone.

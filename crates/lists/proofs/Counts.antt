@@ -1,16 +1,15 @@
 -- What a loop that counts has counted when it ends.
 use Prim.Native.Nat.{ℕ, suc, _+_, _≤_, _<_}
 use mathlib.Core.Path.{_≡_, refl, ap, _∙_}
-use mathlib.Core.Bool.{Bool, true, false, cond}
+use mathlib.Core.Bool.{Bool, true, false, cond, not, _&&_}
 use mathlib.Core.List.{List, [], _∷_, _++_}
 use borrow.Author.Tests.{lt-ltb, le-ltb}
 use native.Mathlib.Omega.{arith}
 use lib.Dec.{ltb}
 use lib.ListN.{length, length-append}
 use Rattle.lists.specs.Walk.{walk, stop, filter}
-use Rattle.lists.specs.Parts.{extentOf, countOf}
-use Rattle.lists.specs.declared.Extent.the-variants as Extent·
-use Rattle.lists.specs.declared.Counted.the-variants.{Rows, Broken}
+use Rattle.lists.specs.Parts.{extentsOf}
+use Rattle.lists.specs.declared.Extents.the-variants as Extents·
 use Rattle.lists.proofs.Walks.{Along, all-met, stops-here, stops-short, filter-takes, filter-leaves}
 
 pub filter-length : (p : ℕ → Bool) (xs : List ℕ) → length (filter p xs) ≤ length xs
@@ -28,54 +27,35 @@ count-takes p xs e n h = ap length (filter-takes p xs e h) ∙ length-append (fi
 pub count-leaves : (p : ℕ → Bool) (xs : List ℕ) (e : ℕ) {taken : ℕ} → length (filter p xs) ≡ taken → p e ≡ false → length (filter p (xs ++ (e ∷ []))) ≡ taken
 count-leaves p xs e n h = ap length (filter-leaves p xs e h) ∙ n
 
+-- the extents of two lists
 module _ {next : ℕ → ℕ} {m first : ℕ} {met : List ℕ} {e rows : ℕ} (a : Along next m first met e rows) where
-  pub rows-counted : m ≤ e → Extent·.Rows rows ≡ extentOf (walk next m m first) m (stop next m m first)
-  unfolding extentOf
-  rows-counted h = rw (all-met a h, stops-here a h, le-ltb e m h, a .many)
+  pub first-endless : (others : List ℕ) (t : ℕ) → e < m → rows ≡ m → Extents·.Broken ≡ extentsOf (walk next m m first) (stop next m m first) others t m
+  unfolding extentsOf
+  first-endless others t h n = rw (stops-short a n, lt-ltb e m h)
 
-  pub rows-broken : e < m → rows ≡ m → Extent·.Broken ≡ extentOf (walk next m m first) m (stop next m m first)
-  unfolding extentOf
-  rows-broken h n = rw (stops-short a n, lt-ltb e m h)
+  module _ {next′ : ℕ → ℕ} {first′ : ℕ} {met′ : List ℕ} {f others : ℕ} (b : Along next′ m first′ met′ f others) (h : m ≤ e) where
+    pub second-endless : f < m → others ≡ m → Extents·.Broken ≡ extentsOf (walk next m m first) (stop next m m first) (walk next′ m m first′) (stop next′ m m first′) m
+    unfolding extentsOf
+    second-endless g n = rw (stops-here a h, le-ltb e m h, stops-short b n, lt-ltb f m g)
 
--- what the extent of a list says of it
-pub extent-broken : (rows : List ℕ) (m s : ℕ) → extentOf rows m s ≡ Extent·.Broken → ltb s m ≡ true
-unfolding extentOf
-extent-broken rows m s = go (ltb s m)
+    pub both-ended : m ≤ f → Extents·.Rows rows others ≡ extentsOf (walk next m m first) (stop next m m first) (walk next′ m m first′) (stop next′ m m first′) m
+    unfolding extentsOf
+    both-ended g = rw (all-met a h, stops-here a h, le-ltb e m h, a .many, all-met b g, stops-here b g, le-ltb f m g, b .many)
+
+-- and what they say of them
+pub extents-broken : (rows : List ℕ) (s : ℕ) (others : List ℕ) (t m : ℕ) → extentsOf rows s others t m ≡ Extents·.Broken → (not (ltb s m) && not (ltb t m)) ≡ false
+unfolding extentsOf
+extents-broken rows s others t m = go (not (ltb s m) && not (ltb t m))
   where
-    go : (b : Bool) → cond b Extent·.Broken (Extent·.Rows (length rows)) ≡ Extent·.Broken → b ≡ true
-    go true h = refl
-    go false h = absurd (let z : _≡_ {A = ℕ} 0 1 = cc in omega arith)
-
-pub extent-rows : (rows : List ℕ) (m s : ℕ) {r : ℕ} → extentOf rows m s ≡ Extent·.Rows r → (ltb s m ≡ false) × (length rows ≡ r)
-unfolding extentOf
-extent-rows rows m s {r} = go (ltb s m)
-  where
-    go : (b : Bool) → cond b Extent·.Broken (Extent·.Rows (length rows)) ≡ Extent·.Rows r → (b ≡ false) × (length rows ≡ r)
+    go : (b : Bool) → cond b (Extents·.Rows (length rows) (length others)) Extents·.Broken ≡ Extents·.Broken → b ≡ false
     go true h = absurd (let z : _≡_ {A = ℕ} 0 1 = cc in omega arith)
-    go false h = (refl, cc)
+    go false h = refl
 
--- so much for a count of rows and items
-pub none-counted : (rows taken : List ℕ) (m s : ℕ) → extentOf rows m s ≡ Extent·.Broken → Broken ≡ countOf rows taken m s
-unfolding countOf
-none-counted rows taken m s h = rw (extent-broken rows m s h)
-
-pub both-counted : (rows taken : List ℕ) (m s : ℕ) {r t : ℕ} → extentOf rows m s ≡ Extent·.Rows r → t ≡ length taken → Rows r t ≡ countOf rows taken m s
-unfolding countOf
-both-counted rows taken m s h n = let e = extent-rows rows m s h in rw (e .0, e .1, n)
-
--- what a count says of its list
-pub count-broken : (rows taken : List ℕ) (m s : ℕ) → countOf rows taken m s ≡ Broken → ltb s m ≡ true
-unfolding countOf
-count-broken rows taken m s = go (ltb s m)
+pub extents-rows : (rows : List ℕ) (s : ℕ) (others : List ℕ) (t m : ℕ) {r o : ℕ} → extentsOf rows s others t m ≡ Extents·.Rows r o
+    → ((not (ltb s m) && not (ltb t m)) ≡ true) × (length rows ≡ r) × (length others ≡ o)
+unfolding extentsOf
+extents-rows rows s others t m {r} {o} = go (not (ltb s m) && not (ltb t m))
   where
-    go : (b : Bool) → cond b Broken (Rows (length rows) (length taken)) ≡ Broken → b ≡ true
-    go true h = refl
+    go : (b : Bool) → cond b (Extents·.Rows (length rows) (length others)) Extents·.Broken ≡ Extents·.Rows r o → (b ≡ true) × (length rows ≡ r) × (length others ≡ o)
+    go true h = (refl, cc, cc)
     go false h = absurd (let z : _≡_ {A = ℕ} 0 1 = cc in omega arith)
-
-pub count-rows : (rows taken : List ℕ) (m s : ℕ) {r t : ℕ} → countOf rows taken m s ≡ Rows r t → (ltb s m ≡ false) × (length rows ≡ r) × (length taken ≡ t)
-unfolding countOf
-count-rows rows taken m s {r} {t} = go (ltb s m)
-  where
-    go : (b : Bool) → cond b Broken (Rows (length rows) (length taken)) ≡ Rows r t → (b ≡ false) × (length rows ≡ r) × (length taken ≡ t)
-    go true h = absurd (let z : _≡_ {A = ℕ} 0 1 = cc in omega arith)
-    go false h = (refl, cc, cc)

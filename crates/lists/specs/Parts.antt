@@ -1,7 +1,7 @@
 -- What the parts answer, and what they ask of their callers.
 use Prim.Native.Nat.{ℕ, _*_, _<_, _≤_}
 use mathlib.Core.Path.{_≡_}
-use mathlib.Core.Bool.{cond}
+use mathlib.Core.Bool.{cond, not, _&&_}
 use mathlib.Core.List.{List, [], _∷_}
 use lib.Dec.{ltb}
 use lib.ListN.{length}
@@ -10,10 +10,8 @@ use Rattle.tables.specs.Answers.{Out, out, done, onto}
 use Rattle.lists.specs.declared.Pick.{Pick}
 use Rattle.lists.specs.declared.Found.{Found}
 use Rattle.lists.specs.declared.Found.the-variants as Found·
-use Rattle.lists.specs.declared.Extent.{Extent}
-use Rattle.lists.specs.declared.Extent.the-variants as Extent·
-use Rattle.lists.specs.declared.Counted.{Counted}
-use Rattle.lists.specs.declared.Counted.the-variants as Counted·
+use Rattle.lists.specs.declared.Extents.{Extents}
+use Rattle.lists.specs.declared.Extents.the-variants as Extents·
 use Rattle.lists.specs.Walk.{rowsFrom, takenFrom}
 
 -- the first row that a walk takes; else where the list ends, unless it is broken
@@ -21,13 +19,9 @@ abbrev pub firstOf : List ℕ → (m s : ℕ) → Found
 firstOf (e ∷ es) m s = Found·.At (record { 0 = e })
 firstOf [] m s = cond (ltb s m) Found·.Broken (Found·.End (record { 0 = s }))
 
--- how many rows a list has, unless it is broken
-unfoldable pub extentOf : List ℕ → (m s : ℕ) → Extent
-extentOf rows m s = cond (ltb s m) Extent·.Broken (Extent·.Rows (length rows))
-
--- how many rows a list has, and how many of them a walk takes, unless it is broken
-unfoldable pub countOf : List ℕ → List ℕ → (m s : ℕ) → Counted
-countOf rows taken m s = cond (ltb s m) Counted·.Broken (Counted·.Rows (length rows) (length taken))
+-- how many rows each of two lists has, unless one is broken
+unfoldable pub extentsOf : List ℕ → (s : ℕ) → List ℕ → (t m : ℕ) → Extents
+extentsOf rows s others t m = cond (not (ltb s m) && not (ltb t m)) (Extents·.Rows (length rows) (length others)) Extents·.Broken
 
 -- items at the front of a table that has room for them, and their number
 unfoldable pub written : List ℕ → List ℕ → Out ℕ (List ℕ)

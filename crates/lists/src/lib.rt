@@ -34,14 +34,8 @@ pub enum Found {
     Broken,
 }
 
-// How many rows a list has, where it ends within m of them.
-pub enum Extent {
-    Rows(u32),
-    Broken,
-}
-
-// How many rows a list has, then how many of them a walk takes.
-pub enum Counted {
+// How many rows each of two lists has, where both end within m of them.
+pub enum Extents {
     Rows(u32, u32),
     Broken,
 }

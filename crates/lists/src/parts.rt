@@ -4,9 +4,8 @@ ghost use lib.ListN.{length};
 ghost use mathlib.Core.List.{map};
 ghost use Rattle.lists.specs.Walk.{picked, rowsFrom, takenFrom, stopFrom, itemOf};
 ghost use Rattle.tables.specs.Answers.{out, done};
-ghost use Rattle.lists.specs.Parts.{firstOf, extentOf, countOf, written, Links, Edges, Known, Gives, HasRow};
-use crate::Counted;
-use crate::Extent;
+ghost use Rattle.lists.specs.Parts.{firstOf, extentsOf, written, Links, Edges, Known, Gives, HasRow};
+use crate::Extents;
 use crate::Found;
 use crate::Item;
 use crate::Pick;
@@ -55,21 +54,36 @@ pub fn first(links: &[u32], ends: &[u32], m: u32, k: usize, pick: Pick, link: u3
     }
 }
 
-// How many rows there are from `link` on.
-pub fn count_rows(links: &[u32], m: u32, k: usize, link: u32) -> Extent
-    requires { ⌜ Links (length (now links)) m k ⌝ }
-    ensures { λ r. ⌜ r ≡ extentOf (rowsFrom (now (links .entry)) m k link) m (stopFrom (now (links .entry)) m k link) ⌝ }
+// How many rows there are from `link` on in direction k, and how many from `other` on in direction j.
+// The second list is gone along beside the first, so that neither waits for the other's links.
+pub fn count_both(links: &[u32], m: u32, k: usize, link: u32, j: usize, other: u32) -> Extents
+    requires { ⌜ Links (length (now links)) m k × Links (length (now links)) m j ⌝ }
+    ensures { λ r. ⌜ r ≡ extentsOf (rowsFrom (now (links .entry)) m k link) (stopFrom (now (links .entry)) m k link)
+        (rowsFrom (now (links .entry)) m j other) (stopFrom (now (links .entry)) m j other) m ⌝ }
 {
     let mut e = link;
+    let mut f = other;
     let mut rows = 0;
+    let mut others = 0;
     while e < m {
         if rows == m {
-            return Extent::Broken;
+            return Extents::Broken;
         }
         e = links[EDGE_CELLS * EdgeIndex(e).index() + k];
         rows += 1;
+        if f < m {
+            f = links[EDGE_CELLS * EdgeIndex(f).index() + j];
+            others += 1;
+        }
     }
-    Extent::Rows(rows)
+    while f < m {
+        if others == m {
+            return Extents::Broken;
+        }
+        f = links[EDGE_CELLS * EdgeIndex(f).index() + j];
+        others += 1;
+    }
+    Extents::Rows(rows, others)
 }
 
 // How many of the `rows` rows from `link` on the walk takes.
@@ -98,19 +112,6 @@ pub fn count_taken(
         met += 1;
     }
     taken
-}
-
-// How many rows there are from `link` on, and how many of them the walk takes.
-pub fn count(links: &[u32], ends: &[u32], m: u32, k: usize, pick: Pick, link: u32) -> Counted
-    requires { ⌜ Edges (length (now links)) (length (now ends)) m k ⌝ }
-    ensures { λ r. ⌜ r ≡ countOf (rowsFrom (now (links .entry)) m k link) (takenFrom (now (links .entry)) (now (ends .entry)) m k pick link) m (stopFrom (now (links .entry)) m k link) ⌝ }
-{
-    let extent = count_rows(links, m, k, link);
-    let Extent::Rows(rows) = extent else {
-        return Counted::Broken;
-    };
-    let taken = count_taken(links, ends, m, k, pick, link, rows);
-    Counted::Rows(rows, taken)
 }
 
 // What the walk gives for row e.

@@ -3,18 +3,16 @@ use mathlib.Core.Path.{sym, _∙_}
 use borrow.Author.Needs.{needs}
 use native.Mathlib.Omega.{arith}
 use denote.Ref.{now}
-use Rattle.legs.proofs.Laws.{Both, first-broken, second-broken, both-known, room-for-rows, room-for-items, no-room}
+use Rattle.legs.proofs.Laws.{Both, one-broken, both-known, room-for-rows, room-for-items, no-room}
 use Rattle.legs.proofs.parts.prepare.Statement.{statement}
 use Rattle.legs.proofs.parts.prepare.Tie as tie
 
--- both extents are known
-both : (c : tie.After-extent2) → let a : tie.After-extent = search in let s : tie.Start = search in
-    Both (now (s .args .links)) (s .args .m) (s .args .first) (s .args .second) (a .extent .given .0 .0) (c .extent2 .given .0 .0)
+-- both lists end
+both : (c : tie.After-extents) → let s : tie.Start = search in
+    Both (now (s .args .links)) (s .args .m) (s .args .first) (s .args .second) (c .extents .given .0 .0) (c .extents .given .0 .1 .0)
 both c =
-    let b : tie.After-count-rows2 = search in
-    let e : tie.After-extent = search in
-    let d : tie.After-count-rows = search in
-    both-known _ _ _ _ (sym (d .count-rows .ensures) ∙ e .extent .given .1) (sym (b .count-rows2 .ensures) ∙ c .extent2 .given .1)
+    let d : tie.After-count-both = search in
+    both-known _ _ _ _ (sym (d .count-both .ensures) ∙ c .extents .given .1)
 
 pub prepare-spec : {M : Type 1} → statement M
 prepare-spec =
@@ -23,15 +21,7 @@ prepare-spec =
     (λ c κs. search needs)
     (λ c. search needs)
     (λ c. search needs)
-    (λ c. let d : tie.After-count-rows = search in first-broken _ _ _ _ _ _ (sym (d .count-rows .ensures) ∙ c .enum-told .given .1))
-    (λ c κs. search needs)
-    (λ c. search needs)
-    (λ c. search needs)
-    (λ c.
-    let b : tie.After-count-rows2 = search in
-    let e : tie.After-extent = search in
-    let d : tie.After-count-rows = search in
-    second-broken _ _ _ _ _ _ (sym (d .count-rows .ensures) ∙ e .extent .given .1) (sym (b .count-rows2 .ensures) ∙ c .enum-told2 .given .1))
+    (λ c. let d : tie.After-count-both = search in one-broken _ _ _ _ _ _ (sym (d .count-both .ensures) ∙ c .enum-told .given .1))
     (λ c. search needs)
     (λ c. search needs)
     (λ c. search needs)
