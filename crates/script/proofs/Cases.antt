@@ -26,7 +26,8 @@ use Rattle.text.specs.Numbers.{magnitude, fields, operands, weightOperand}
 use Rattle.text.specs.Lines.{lines}
 use Rattle.reply.specs.Replies.{lineOf}
 use Rattle.commands.specs.Commands.{addNodeLine, addEdgeLine, updateEdgeLine, findEdgeLine, removeEdgeLine, removeNodeLine, neighborsLine, edgesLine, edgesMutLine, edgesBetweenLine, sumAroundLine, checkLine, clearEdgesLine, clearLine}
-use Rattle.dispatch.specs.Step.{operandsOf, step}
+use Rattle.letters.specs.Letters.{operandsOf}
+use Rattle.dispatch.specs.Step.{step}
 use Rattle.obeying.specs.Line.{numbersBehind, lineAnswer}
 use Rattle.script.specs.Script.{answers, ran, printed, begun, run}
 

@@ -36,8 +36,9 @@ use Rattle.text.specs.Lines.{lines}
 use Rattle.reply.specs.declared.Reply.{Reply}
 use Rattle.commands.specs.Commands.{nothing, oneValue, oneNumber, counted, edgeGone, nodeGone, rowsRead, replyTo, addNodeLine, addEdgeLine, updateEdgeLine, findEdgeLine, removeEdgeLine, removeNodeLine, neighborsLine, edgesLine, edgesMutLine, edgesBetweenLine, sumAroundLine, checkLine, clearEdgesLine, clearLine}
 use Rattle.commands.proofs.Kept.{Sane}
+use Rattle.letters.specs.Letters.{among}
 use Rattle.dispatch.specs.declared.Numbers.{Numbers}
-use Rattle.dispatch.specs.Step.{State, among, step}
+use Rattle.dispatch.specs.Step.{State, step}
 use Rattle.dispatch.proofs.Keeps.{step-ways}
 use Rattle.obeying.specs.Line.{lineAnswer}
 use Rattle.script.specs.Script.{answers, Each, begun}

@@ -11,23 +11,33 @@ use Rattle.text.proofs.parts.read_weight.Statement.{statement}
 use Rattle.text.proofs.parts.read_weight.Tie as tie
 
 returns : tie.Need-returns
-returns c = rw (nothing-there (c .before .before .pre) (c .if1 .taken))
+returns c =
+    let start : tie.Start = search in
+    rw (nothing-there (start .pre) (c .if1 .taken))
 
 returns-2 : tie.Need-returns-2
 returns-2 c =
-    let d = c .before .before .before in
-    rw (first-there (d .before .before .before .before .pre) (d .before .before .if1 .left))
-    (negative-bad _ _ _ (d .if2 .taken) (c .before .before .read-whole .ensures) (c .enum-told .given .1))
+    let after-read-whole : tie.After-read-whole = search in
+    let then2 : tie.Then2 = search in
+    let else1 : tie.Else1 = search in
+    let start : tie.Start = search in
+    rw (first-there (start .pre) (else1 .if1 .left))
+    (negative-bad _ _ _ (then2 .if2 .taken) (after-read-whole .read-whole .ensures) (c .enum-told .given .1))
 
 returns-3 : tie.Need-returns-3
 returns-3 c =
-    let d = c .before .before .before .before .before in
-    rw (first-there (d .before .before .before .before .pre) (d .before .before .if1 .left))
-    (negative-over _ _ _ (d .if2 .taken) (c .before .before .before .before .read-whole .ensures) (c .before .before .value .given .1) (omega arith))
+    let after-value : tie.After-value = search in
+    let after-read-whole : tie.After-read-whole = search in
+    let then2 : tie.Then2 = search in
+    let else1 : tie.Else1 = search in
+    let start : tie.Start = search in
+    rw (first-there (start .pre) (else1 .if1 .left))
+    (negative-over _ _ _ (then2 .if2 .taken) (after-read-whole .read-whole .ensures) (after-value .value .given .1) (omega arith))
 
 sub-t13 : tie.Need-sub-t13
 sub-t13 c =
-    let v = c .before .before .value .given .0 .0 in
+    let after-value : tie.After-value = search in
+    let v = after-value .value .given .0 .0 in
     rw (opposite v (c .if3 .left)) (record { sfits = omega (arith, opposite-fits v (c .if3 .left)) })
 
 cast-t14 : tie.Need-cast-t14
@@ -35,30 +45,45 @@ cast-t14 c = rw (opposite-back _ (c .if3 .left)) (record { sfits = opposite-fits
 
 returns-4 : tie.Need-returns-4
 returns-4 c =
-    let d = c .before .before .before .before .before in
-    let v = c .before .before .value .given .0 .0 in
-    rw (first-there (d .before .before .before .before .pre) (d .before .before .if1 .left), opposite-back v (c .if3 .left), back32 (negℤ (pos v)) (opposite-fits v (c .if3 .left)))
-    (negative-fits _ _ _ (d .if2 .taken) (c .before .before .before .before .read-whole .ensures) (c .before .before .value .given .1) (omega arith))
+    let after-value : tie.After-value = search in
+    let after-read-whole : tie.After-read-whole = search in
+    let then2 : tie.Then2 = search in
+    let else1 : tie.Else1 = search in
+    let start : tie.Start = search in
+    let v = after-value .value .given .0 .0 in
+    rw (first-there (start .pre) (else1 .if1 .left), opposite-back v (c .if3 .left), back32 (negℤ (pos v)) (opposite-fits v (c .if3 .left)))
+    (negative-fits _ _ _ (then2 .if2 .taken) (after-read-whole .read-whole .ensures) (after-value .value .given .1) (omega arith))
 
 returns-5 : tie.Need-returns-5
 returns-5 c =
-    let d = c .before .before .before in
-    let e = first-there (d .before .before .before .before .pre) (d .before .before .if1 .left) in
-    rw e (plain-bad _ _ _ (d .if2 .left) (rw e at (c .before .before .read-whole2 .ensures)) (c .enum-told2 .given .1))
+    let after-read-whole2 : tie.After-read-whole2 = search in
+    let else2 : tie.Else2 = search in
+    let else1 : tie.Else1 = search in
+    let start : tie.Start = search in
+    let e = first-there (start .pre) (else1 .if1 .left) in
+    rw e (plain-bad _ _ _ (else2 .if2 .left) (rw e at (after-read-whole2 .read-whole2 .ensures)) (c .enum-told2 .given .1))
 
 returns-6 : tie.Need-returns-6
 returns-6 c =
-    let d = c .before .before .before .before .before in
-    let e = first-there (d .before .before .before .before .pre) (d .before .before .if1 .left) in
-    rw e (plain-over _ _ _ (d .if2 .left) (rw e at (c .before .before .before .before .read-whole2 .ensures)) (c .before .before .value2 .given .1) (omega arith))
+    let after-value2 : tie.After-value2 = search in
+    let after-read-whole2 : tie.After-read-whole2 = search in
+    let else2 : tie.Else2 = search in
+    let else1 : tie.Else1 = search in
+    let start : tie.Start = search in
+    let e = first-there (start .pre) (else1 .if1 .left) in
+    rw e (plain-over _ _ _ (else2 .if2 .left) (rw e at (after-read-whole2 .read-whole2 .ensures)) (after-value2 .value2 .given .1) (omega arith))
 
 returns-7 : tie.Need-returns-7
 returns-7 c =
-    let d = c .before .before .before .before .before in
-    let e = first-there (d .before .before .before .before .pre) (d .before .before .if1 .left) in
-    let v = c .before .before .value2 .given .0 .0 in
+    let after-value2 : tie.After-value2 = search in
+    let after-read-whole2 : tie.After-read-whole2 = search in
+    let else2 : tie.Else2 = search in
+    let else1 : tie.Else1 = search in
+    let start : tie.Start = search in
+    let e = first-there (start .pre) (else1 .if1 .left) in
+    let v = after-value2 .value2 .given .0 .0 in
     let b : toZ w32 v ≡ pos v = back32 (pos v) (omega arith) in
-    rw (e, b) (plain-fits _ _ _ (d .if2 .left) (rw e at (c .before .before .before .before .read-whole2 .ensures)) (c .before .before .value2 .given .1) (omega arith))
+    rw (e, b) (plain-fits _ _ _ (else2 .if2 .left) (rw e at (after-read-whole2 .read-whole2 .ensures)) (after-value2 .value2 .given .1) (omega arith))
 
 pub read-weight-spec : {M : Type 1} → statement M
 read-weight-spec =

@@ -1,9 +1,9 @@
--- `operands_of` meets its contract: each arm by the letters that lead there. Assumes nothing.
+-- `operands_of` meets its contract: each arm by the letters that lead there.
 use mathlib.Core.Logic.{inl, inr, ⊎-elim}
 use native.Mathlib.Omega.{arith}
-use Rattle.dispatch.proofs.Counts.{pair, has-3, has-2, has-1, has-1-too, has-0, has-4}
-use Rattle.dispatch.proofs.operands_of.Statement.{statement}
-use Rattle.dispatch.proofs.operands_of.Tie as tie
+use Rattle.letters.proofs.Counts.{pair, has-3, has-2, has-1, has-1-too, has-0, has-4}
+use Rattle.letters.proofs.operands_of.Statement.{statement}
+use Rattle.letters.proofs.operands_of.Tie as tie
 
 returns : tie.Need-returns
 returns c = has-3 _ (c .match .keys1)
