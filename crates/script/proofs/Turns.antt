@@ -66,7 +66,7 @@ module _ (limit at : ℕ) (s : State) where
     left-stop h = rw (lt-leb (at + length (textOf o)) limit h)
 
 -- text at the front of an output
-front-is : (bytes text : List ℕ) → put bytes 0 text ≡ onto text bytes
+pub front-is : (bytes text : List ℕ) → put bytes 0 text ≡ onto text bytes
 unfolding put
 front-is bytes text = ap (λ n. text ++ drop n bytes) (zero-add (length text))
 
