@@ -1,5 +1,5 @@
 -- On a network that fits and is sound no call answers 6: `find-6`, `update-6`, `gone-6`, `closed-6`, `walked-6`, `sum-6`; so no command is told 6:
--- `add-node-6` to `clear-6`. Assumes nothing.
+-- `add-node-6` to `clear-6`.
 use Prim.Native.Nat.{ℕ, zero, suc, _<_}
 use mathlib.Core.Path.{_≡_, refl, ap, subst}
 use mathlib.Core.Logic.{⊎-elim}
@@ -35,7 +35,9 @@ use Rattle.removal.proofs.EdgeOuts.{taken-out}
 use Rattle.closing.specs.Closing.{Closed, removeNode}
 use Rattle.closing.proofs.NodeOuts.{six-unsound}
 use Rattle.reply.specs.declared.Reply.{Reply}
-use Rattle.commands.specs.Commands.{nothing, oneValue, oneNumber, counted, edgeGone, nodeGone, rowsRead, replyTo, addNodeLine, addEdgeLine, updateEdgeLine, findEdgeLine, removeEdgeLine, removeNodeLine, neighborsLine, edgesLine, edgesMutLine, edgesBetweenLine, sumAroundLine, checkLine, clearEdgesLine, clearLine}
+use Rattle.commands.specs.Commands.{nothing, oneValue, oneNumber, counted, edgeGone, nodeGone, rowsRead, replyTo, addNodeLine, addEdgeLine}
+use Rattle.commands.specs.Commands.{updateEdgeLine, findEdgeLine, removeEdgeLine, removeNodeLine, neighborsLine, edgesLine, edgesMutLine}
+use Rattle.commands.specs.Commands.{edgesBetweenLine, sumAroundLine, checkLine, clearEdgesLine, clearLine}
 use Rattle.commands.proofs.Ways.{either-way, missing-is}
 use Rattle.commands.proofs.Kept.{Sane}
 

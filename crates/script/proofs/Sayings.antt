@@ -1,5 +1,5 @@
 -- With output tables of two items for each edge row no command is refused 7; and on a network that fits and is sound none is refused 1 or 6. So in a run
--- a line is told 0, 2, 3, 4, 5 or 10: `run-told`. Assumes nothing.
+-- a line is told 0, 2, 3, 4, 5 or 10: `run-told`.
 use Prim.Native.Nat.{ℕ, _*_, _-_, _≤_}
 use mathlib.Core.Path.{_≡_, refl}
 use mathlib.Core.Bool.{true, not, _&&_}
@@ -34,7 +34,9 @@ use Rattle.closing.specs.Closing.{closedIfRoom, removeNode}
 use Rattle.stripping.proofs.Others.{filter-fewer}
 use Rattle.text.specs.Lines.{lines}
 use Rattle.reply.specs.declared.Reply.{Reply}
-use Rattle.commands.specs.Commands.{nothing, oneValue, oneNumber, counted, edgeGone, nodeGone, rowsRead, replyTo, addNodeLine, addEdgeLine, updateEdgeLine, findEdgeLine, removeEdgeLine, removeNodeLine, neighborsLine, edgesLine, edgesMutLine, edgesBetweenLine, sumAroundLine, checkLine, clearEdgesLine, clearLine}
+use Rattle.commands.specs.Commands.{nothing, oneValue, oneNumber, counted, edgeGone, nodeGone, rowsRead, replyTo, addNodeLine, addEdgeLine, updateEdgeLine}
+use Rattle.commands.specs.Commands.{findEdgeLine, removeEdgeLine, removeNodeLine, neighborsLine, edgesLine, edgesMutLine, edgesBetweenLine, sumAroundLine}
+use Rattle.commands.specs.Commands.{checkLine, clearEdgesLine, clearLine}
 use Rattle.commands.proofs.Kept.{Sane}
 use Rattle.letters.specs.Letters.{among}
 use Rattle.dispatch.specs.declared.Numbers.{Numbers}
@@ -163,7 +165,8 @@ three-says g f a t n s r =
 
 module _ (letter : ℕ) (o : Numbers) (s : State) (h : Roomy s) where
   step-says : Says (step letter o s .reply .number)
-  unfolding addNodeLine addEdgeLine updateEdgeLine findEdgeLine removeEdgeLine removeNodeLine neighborsLine edgesLine edgesMutLine edgesBetweenLine sumAroundLine checkLine clearEdgesLine clearLine neighbors edges edgesMut edgesBetween
+  unfolding addNodeLine addEdgeLine updateEdgeLine findEdgeLine removeEdgeLine removeNodeLine neighborsLine edgesLine edgesMutLine edgesBetweenLine
+      sumAroundLine checkLine clearEdgesLine clearLine neighbors edges edgesMut edgesBetween
   step-says =
       let g = s .network in
       let f = h .sane .0 in
