@@ -162,7 +162,10 @@ module _ (g : Net) (ls : ℕ → ℕ → List ℕ) (f : fits g ≡ true) (S : So
   all-present : (a : ℕ) → present (g .n) (around g Far a) ≡ true
   all-present a =
       let second = map (gives g Far 1) (picks g 1 (NotTo (record { 0 = a })) a) in
-      let q = present-walk (g .n) (g .m) (cell (g .links) 1) (gives g Far 1) (λ x. picked (NotTo (record { 0 = a })) (cell (g .ends) 0 x)) (λ x l. S .has-ends 0 x (omega arith) l) [] refl (g .m) (linkAt g 1 (Head a)) in
+      let others = NotTo (record { 0 = a }) in
+      let q =
+      present-walk (g .n) (g .m) (cell (g .links) 1) (gives g Far 1) (λ x. picked others (cell (g .ends) 0 x)) (λ x l. S .has-ends 0 x (omega arith) l) [] refl
+      (g .m) (linkAt g 1 (Head a)) in
       present-walk (g .n) (g .m) (cell (g .links) 0) (gives g Far 0) (λ x. true) (λ x l. S .has-ends 1 x (omega arith) l) second
       (subst (λ (xs : List ℕ). present (g .n) xs ≡ true) (append-nil second) q)
       (g .m) (linkAt g 0 (Head a))

@@ -183,9 +183,12 @@ module _ (letter : ℕ) (o : Numbers) (s : State) (h : Roomy s) where
       (reply-says 88 edgeGone (removeEdge g a .answer) refl (removal-says g f a))
       (reply-says 68 nodeGone (removeNode g a t .answer) refl (closing-says g f a t (omega (arith, around-few g f Weight a, h .numbers-hold))))
       (reply-says 87 counted (neighbors g a t .answer) refl (gives-says g f a (around g Far a) t (omega (arith, around-few g f Far a, h .numbers-hold))))
-      (reply-says 71 counted (edges g a (s .tables) .answer) refl (walk-says g f a (s .tables) (giveThree (λ item. around g item a) (s .tables)) (three-says g f a (s .tables) (h .numbers-hold) (h .sources-hold) (h .targets-hold))))
+      (reply-says 71 counted (edges g a (s .tables) .answer) refl
+      (walk-says g f a (s .tables) (giveThree (λ item. around g item a) (s .tables))
+      (three-says g f a (s .tables) (h .numbers-hold) (h .sources-hold) (h .targets-hold))))
       (reply-says 77 counted (edgesMut g a t .answer) refl (gives-says g f a every t (omega (arith, two-few g f 1 0 Every Every a, h .numbers-hold))))
-      (reply-says 66 counted (edgesBetween g a b t .answer) refl (gives-says g f a between t (omega (arith, two-few g f 0 1 (To (record { 0 = b })) (ToNot (record { 0 = b }) (record { 0 = a })) a, h .numbers-hold))))
+      (reply-says 66 counted (edgesBetween g a b t .answer) refl
+      (gives-says g f a between t (omega (arith, two-few g f 0 1 (To (record { 0 = b })) (ToNot (record { 0 = b }) (record { 0 = a })) a, h .numbers-hold))))
       (reply-says 65 oneValue (sumAround g a) refl (sum-says g f a))
       (reply-says 83 rowsRead (toldChecked (checked g)) refl (rw (sound-0 g (h .sane .1 .0) f (h .sane .1 .1)) refl))
       (reply-says 67 nothing (clearEdges g .answer) refl (no-edges-says g f))
