@@ -4,19 +4,22 @@ use Prim.Native.Nat.{ℕ, _+_, _*_, _^_, _/_, _%_, _≤_, min}
 use mathlib.Core.Path.{_≡_, refl, sym, ap, ap₂, _∙_}
 use mathlib.Core.Logic.{_⊎_, inl, inr, ⊎-elim}
 use mathlib.Core.List.{List, [], _∷_, _++_}
-use native.Mathlib.Nat.{min-le-right, zero-add}
+use native.Mathlib.Nat.{min-eq-right, zero-add}
 use native.Mathlib.Omega.{arith}
 use borrow.Author.Tests.{ne-eqb}
 use lib.ListN.{length, length-append}
+use lib.Seq.{length-take-le}
 use Rattle.tables.specs.Answers.{onto}
 use Rattle.printing.specs.Bytes.{newline}
 use Rattle.printing.specs.Digits.{digits, spelt, field}
 use Rattle.printing.specs.Parts.{Writes}
-use Rattle.printing.proofs.Putting.{writes-on}
+use Rattle.printing.proofs.Putting.{put-nothing, writes-on}
+use Rattle.reply.proofs.Texts.{writes-three}
 use Rattle.script.specs.Script.{mostBytes, run, packed}
 use Rattle.script.proofs.Limits.{run-most, run-number}
 use Rattle.script.proofs.Turns.{front-is}
-use Rattle.telling.specs.Telling.{endingOf, toldRun, toldBytes}
+use Rattle.telling.specs.Telling.{endingOf, toldRun}
+use Rattle.telling.specs.Parts.{toldBytes, Tells}
 
 -- nothing; `! 1` and a newline; `! 7` and a newline
 pub ending-0 : endingOf 0 ≡ []
@@ -40,6 +43,17 @@ pub ending-long : (number : ℕ) → (number ≡ 0 → ⊥) → length (endingOf
 ending-long number h =
     ap length (ending-is number h)
     ∙ omega (arith, length-append ((33 ∷ []) ++ field (digits number)) (newline ∷ []), length-append (33 ∷ []) (field (digits number)))
+
+-- the parts of an ending, written one behind the other
+module _ {number at : ℕ} {before : List ℕ} (room : at + length (endingOf number) ≤ length before) where
+  pub no-ending : number ≡ 0 → Writes before before at (endingOf number) at
+  no-ending z =
+      let e : endingOf number ≡ [] = ap endingOf z ∙ ending-0 in
+      rw e (record { bytes-are = put-nothing before at (omega (arith, room)); ends-at = omega arith })
+
+  pub ended : {one two after : List ℕ} {p q r : ℕ} → (number ≡ 0 → ⊥) → Writes before one at (33 ∷ []) p → Writes one two p (field (digits number)) q
+      → Writes two after q (newline ∷ []) r → Writes before after at (endingOf number) r
+  ended h why value end = rw (ending-is number h) (writes-three (rw (ending-is number h) at room) why value end)
 
 -- a run is told 0, 1 or 7
 pub run-ending : (script : List ℕ) (room : ℕ) → length (endingOf (run script room .number)) ≤ 4
@@ -66,11 +80,11 @@ module _ {script before between : List ℕ} {told : ℕ} (room : toldBytes ≤ l
   -- more room than that changes nothing
   same-run : run script (length before) ≡ run script mostBytes
   unfolding run
-  same-run = let l : min (length before) mostBytes ≡ mostBytes = omega (arith, room) in rw l
+  same-run = let l : min (length before) mostBytes ≡ mostBytes = min-eq-right (omega (arith, room)) in rw l
 
-  pub told-so : {after : List ℕ} {r : ℕ} → Writes between after (told % 4294967296) (endingOf (told / 4294967296)) r → Writes before after 0 (toldRun script) r
+  told-whole : {after : List ℕ} {r : ℕ} → Writes between after (told % 4294967296) (endingOf (told / 4294967296)) r → Writes before after 0 (toldRun script) r
   unfolding toldRun
-  told-so {after} {r} w =
+  told-whole {after} {r} w =
       let g = run script (length before) in
       let lines : Writes before between 0 (g .bytes) (told % 4294967296) =
       record {
@@ -79,3 +93,9 @@ module _ {script before between : List ℕ} {told : ℕ} (room : toldBytes ≤ l
       } in
       let ending : Writes between after (told % 4294967296) (endingOf (g .number)) r = rw number-is at w in
       rw (← same-run) (writes-on (omega (arith, run-most script (length before), run-ending script (length before), room)) lines ending)
+
+  pub told-so : {after : List ℕ} {r : ℕ} → length after ≡ length before
+      → Writes between after (told % 4294967296) (endingOf (told / 4294967296)) r → Tells script before after r
+  told-so {after} {r} long w =
+      let within : r ≤ length after = omega (arith, w .ends-at, ending-room, long) in
+      record { writes = told-whole w; held = (within, sym (length-take-le _ _ within)) }

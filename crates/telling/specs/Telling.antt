@@ -1,5 +1,5 @@
 -- What is printed of a run: its answer lines, then how it ended.
-use Prim.Native.Nat.{ℕ, _+_}
+use Prim.Native.Nat.{ℕ}
 use mathlib.Core.Bool.{cond}
 use mathlib.Core.List.{List, [], _∷_, _++_}
 use lib.Dec.{eqb}
@@ -14,7 +14,3 @@ endingOf number = cond (eqb number 0) [] ((33 ∷ []) ++ field (digits number) +
 -- the answer lines, at most 16,384 bytes, and the ending
 unfoldable pub toldRun : List ℕ → List ℕ
 toldRun script = run script mostBytes .bytes ++ endingOf (run script mostBytes .number)
-
--- all of it has room in so many bytes
-abbrev pub toldBytes : ℕ
-toldBytes = mostBytes + 4
