@@ -45,7 +45,7 @@ ending-long number h =
     ∙ omega (arith, length-append ((33 ∷ []) ++ field (digits number)) (newline ∷ []), length-append (33 ∷ []) (field (digits number)))
 
 -- the parts of an ending, written one behind the other
-module _ {number at : ℕ} {before : List ℕ} (room : at + length (endingOf number) ≤ length before) where
+module _ (number at : ℕ) (before : List ℕ) (room : at + length (endingOf number) ≤ length before) where
   pub no-ending : number ≡ 0 → Writes before before at (endingOf number) at
   no-ending z =
       let e : endingOf number ≡ [] = ap endingOf z ∙ ending-0 in
@@ -66,7 +66,7 @@ run-ending script room =
     (run-number script room)
 
 -- a run into so much room, as it is told in one number, and behind it its ending
-module _ {script before between : List ℕ} {told : ℕ} (room : toldBytes ≤ length before) (e : (told, between) ≡ packed (run script (length before)) before) where
+module _ (script before : List ℕ) {between : List ℕ} {told : ℕ} (room : toldBytes ≤ length before) (e : (told, between) ≡ packed (run script (length before)) before) where
   bytes-are : told % 4294967296 ≡ length (run script (length before) .bytes)
   bytes-are = omega (arith, ap (λ (p : ℕ × List ℕ). p .0) e, run-most script (length before))
 

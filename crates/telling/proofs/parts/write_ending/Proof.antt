@@ -8,7 +8,7 @@ use Rattle.telling.proofs.parts.write_ending.Tie as tie
 returns : tie.Need-returns
 returns c =
     let s : tie.Start = search in
-    no-ending (s .pre) (c .if1 .taken)
+    no-ending _ _ _ (s .pre) (c .if1 .taken)
 
 write-byte-requires : tie.Need-write-byte-requires
 write-byte-requires c κs =
@@ -41,7 +41,7 @@ returns-2 c =
     let b : tie.After-write-byte = search in
     let e : tie.Else1 = search in
     let s : tie.Start = search in
-    ended (s .pre) (e .if1 .left) (b .write-byte .ensures) (f .write-field .ensures) (d .write-byte2 .ensures)
+    ended _ _ _ (s .pre) (e .if1 .left) (b .write-byte .ensures) (f .write-field .ensures) (d .write-byte2 .ensures)
 
 pub write-ending-spec : {M : Type 1} → statement M
-write-ending-spec = tie.close (tie.spec returns write-byte-requires (λ c. search needs) write-field-requires write-byte-requires-2 (λ c. search needs) returns-2)
+write-ending-spec = tie.close (tie.spec returns write-byte-requires write-field-requires write-byte-requires-2 (λ c. search needs) returns-2)
