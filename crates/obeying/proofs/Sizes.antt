@@ -1,4 +1,4 @@
--- Whatever the line, there are as many edge rows as before, and every output table is as long as it was: `line-sizes`. Assumes nothing.
+-- Whatever the line, there are as many edge rows as before, and every output table is as long as it was: `line-sizes`.
 use Prim.Native.Nat.{ℕ, zero, suc, _-_, _≤_}
 use mathlib.Core.Path.{_≡_, refl, ap, _∙_}
 use mathlib.Core.Bool.{_&&_}

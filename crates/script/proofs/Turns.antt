@@ -1,4 +1,4 @@
--- A run, line after line: where it starts, `started`; a line that fits, `turned`; one that does not, `stopped`; the end of the script, `ended`. Assumes nothing.
+-- A run, line after line: where it starts, `started`; a line that fits, `turned`; one that does not, `stopped`; the end of the script, `ended`.
 use Prim.Native.Nat.{ℕ, _+_, _≤_, _<_}
 use mathlib.Core.Path.{_≡_, refl, sym, ap, ap₂, _∙_}
 use mathlib.Core.List.{List, [], _∷_, _++_, map}

@@ -1,4 +1,4 @@
--- `net_run` meets its contract: the loop from the empty network, and its end packed into one number. Assumes nothing.
+-- `net_run` meets its contract: the loop from the empty network, and its end packed into one number.
 use native.Mathlib.Nat.{min-le-left}
 use native.Mathlib.Omega.{arith}
 use lib.ListN.{length}

@@ -1,4 +1,4 @@
--- `parts::line_end` meets its contract: the bytes passed and those of the line left are those of the line. Assumes nothing.
+-- `parts::line_end` meets its contract: the bytes passed and those of the line left are those of the line.
 use Prim.Native.Nat.{_+_, _-_, _≤_}
 use mathlib.Core.Path.{_≡_}
 use native.Mathlib.Omega.{arith}

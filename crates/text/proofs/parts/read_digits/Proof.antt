@@ -1,4 +1,4 @@
--- `parts::read_digits` meets its contract: the digits read are those that the text begins with. Assumes nothing.
+-- `parts::read_digits` meets its contract: the digits read are those that the text begins with.
 use Prim.Native.Nat.{ℕ, _-_, _≤_}
 use mathlib.Core.Path.{sym, _∙_}
 use mathlib.Core.Logic.{⊎-elim}

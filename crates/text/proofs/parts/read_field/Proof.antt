@@ -1,4 +1,4 @@
--- `parts::read_field` meets its contract: the text, by its first byte. Assumes nothing.
+-- `parts::read_field` meets its contract: the text, by its first byte.
 use borrow.Author.Needs.{needs}
 use borrow.Author.Tests.{eq-eqb, ne-eqb}
 use Rattle.text.specs.Parts.{readField}

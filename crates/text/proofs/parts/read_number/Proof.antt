@@ -1,4 +1,4 @@
--- `parts::read_number` meets its contract. Assumes nothing.
+-- `parts::read_number` meets its contract.
 use native.Mathlib.Omega.{arith}
 use borrow.Author.Needs.{needs}
 use Rattle.text.proofs.Fields.{number-bad, number-over, number-fits}

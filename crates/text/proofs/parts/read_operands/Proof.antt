@@ -1,4 +1,4 @@
--- `parts::read_operands` meets its contract: the numbers stored and those left to scan are the operands. Assumes nothing.
+-- `parts::read_operands` meets its contract: the numbers stored and those left to scan are the operands.
 use Prim.Native.Nat.{_-_}
 use mathlib.Core.Path.{sym, _∙_}
 use native.Mathlib.Omega.{arith}

@@ -1,4 +1,4 @@
--- `parts::read_whole` meets its contract. Assumes nothing.
+-- `parts::read_whole` meets its contract.
 use borrow.Author.Needs.{needs}
 use Rattle.text.proofs.Fields.{many-there, whole-bad, whole-part, whole-all}
 use Rattle.text.proofs.parts.read_whole.Statement.{statement}
