@@ -1,5 +1,5 @@
 -- On a network that fits and is sound no call answers 6: `find-6`, `update-6`, `gone-6`, `closed-6`, `walked-6`, `sum-6`; so no command is told 6:
--- `add-node-6` to `clear-6`. Assumes nothing.
+-- `add-node-6` to `clear-6`.
 use Prim.Native.Nat.{ℕ, zero, suc, _<_}
 use mathlib.Core.Path.{_≡_, refl, ap, subst}
 use mathlib.Core.Logic.{⊎-elim}
@@ -35,7 +35,9 @@ use Rattle.removal.proofs.EdgeOuts.{taken-out}
 use Rattle.closing.specs.Closing.{Closed, removeNode}
 use Rattle.closing.proofs.NodeOuts.{six-unsound}
 use Rattle.reply.specs.declared.Reply.{Reply}
-use Rattle.commands.specs.Commands.{nothing, oneValue, oneNumber, counted, edgeGone, nodeGone, rowsRead, replyTo, addNodeLine, addEdgeLine, updateEdgeLine, findEdgeLine, removeEdgeLine, removeNodeLine, neighborsLine, edgesLine, edgesMutLine, edgesBetweenLine, sumAroundLine, checkLine, clearEdgesLine, clearLine}
+use Rattle.commands.specs.Commands.{nothing, oneValue, oneNumber, counted, edgeGone, nodeGone, rowsRead, replyTo, addNodeLine, addEdgeLine}
+use Rattle.commands.specs.Commands.{updateEdgeLine, findEdgeLine, removeEdgeLine, removeNodeLine, neighborsLine, edgesLine, edgesMutLine}
+use Rattle.commands.specs.Commands.{edgesBetweenLine, sumAroundLine, checkLine, clearEdgesLine, clearLine}
 use Rattle.commands.proofs.Ways.{either-way, missing-is}
 use Rattle.commands.proofs.Kept.{Sane}
 
@@ -160,7 +162,10 @@ module _ (g : Net) (ls : ℕ → ℕ → List ℕ) (f : fits g ≡ true) (S : So
   all-present : (a : ℕ) → present (g .n) (around g Far a) ≡ true
   all-present a =
       let second = map (gives g Far 1) (picks g 1 (NotTo (record { 0 = a })) a) in
-      let q = present-walk (g .n) (g .m) (cell (g .links) 1) (gives g Far 1) (λ x. picked (NotTo (record { 0 = a })) (cell (g .ends) 0 x)) (λ x l. S .has-ends 0 x (omega arith) l) [] refl (g .m) (linkAt g 1 (Head a)) in
+      let others = NotTo (record { 0 = a }) in
+      let q =
+      present-walk (g .n) (g .m) (cell (g .links) 1) (gives g Far 1) (λ x. picked others (cell (g .ends) 0 x)) (λ x l. S .has-ends 0 x (omega arith) l) [] refl
+      (g .m) (linkAt g 1 (Head a)) in
       present-walk (g .n) (g .m) (cell (g .links) 0) (gives g Far 0) (λ x. true) (λ x l. S .has-ends 1 x (omega arith) l) second
       (subst (λ (xs : List ℕ). present (g .n) xs ≡ true) (append-nil second) q)
       (g .m) (linkAt g 0 (Head a))

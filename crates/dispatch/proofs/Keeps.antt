@@ -1,4 +1,4 @@
--- Whatever the letter, a command leaves a network that fits and is sound so, `step-keeps`; and on such a network none is told 6, `step-6`. Assumes nothing.
+-- Whatever the letter, a command leaves a network that fits and is sound so, `step-keeps`; and on such a network none is told 6, `step-6`.
 use Prim.Native.Nat.{ℕ}
 use mathlib.Core.Path.{_≡_}
 use mathlib.Core.Bool.{Bool, true, false, cond}
@@ -7,9 +7,11 @@ use lib.Dec.{eqb}
 use Rattle.index.specs.declared.Refusal.the-variants.{NotCommand}
 use Rattle.index.specs.Refusals.{refusalNo}
 use Rattle.reply.specs.Replies.{bareReply}
-use Rattle.commands.specs.Commands.{Replied, addNodeLine, addEdgeLine, updateEdgeLine, findEdgeLine, removeEdgeLine, removeNodeLine, neighborsLine, edgesLine, edgesMutLine, edgesBetweenLine, sumAroundLine, checkLine, clearEdgesLine, clearLine}
+use Rattle.commands.specs.Commands.{Replied, addNodeLine, addEdgeLine, updateEdgeLine, removeEdgeLine, removeNodeLine, clearEdgesLine, clearLine}
+use Rattle.commands.specs.Commands.{findEdgeLine, neighborsLine, edgesLine, edgesMutLine, edgesBetweenLine, sumAroundLine, checkLine}
 use Rattle.commands.proofs.Kept.{Sane, add-node-keeps, add-edge-keeps, update-edge-keeps, remove-edge-keeps, remove-node-keeps, clear-edges-keeps, clear-keeps}
-use Rattle.commands.proofs.Sixes.{add-node-6, add-edge-6, update-edge-6, find-edge-6, remove-edge-6, remove-node-6, neighbors-6, edges-6, edges-mut-6, edges-between-6, sum-around-6, check-6, clear-edges-6, clear-6}
+use Rattle.commands.proofs.Sixes.{add-node-6, add-edge-6, update-edge-6, remove-edge-6, remove-node-6, clear-edges-6, clear-6}
+use Rattle.commands.proofs.Sixes.{find-edge-6, neighbors-6, edges-6, edges-mut-6, edges-between-6, sum-around-6, check-6}
 use Rattle.dispatch.specs.declared.Numbers.{Numbers}
 use Rattle.dispatch.specs.Step.{State, tells, changes, gives, givesThree, changesAndGives, step}
 

@@ -1,7 +1,7 @@
 -- One command of a script: its letter says what is done.
 use Prim.Native.Nat.{ℕ}
-use mathlib.Core.Bool.{Bool, true, false, cond}
-use mathlib.Core.List.{List, [], _∷_}
+use mathlib.Core.Bool.{cond}
+use mathlib.Core.List.{List}
 use denote.Ref.{now}
 use lib.Dec.{eqb}
 use lib.IntN.{ℤ}
@@ -12,7 +12,8 @@ use Rattle.legs.specs.Legs.{Tables3, tables3}
 use Rattle.removal.specs.Parts.{Count}
 use Rattle.reply.specs.declared.Reply.{Reply}
 use Rattle.reply.specs.Replies.{bareReply}
-use Rattle.commands.specs.Commands.{Replied, replied, addNodeLine, addEdgeLine, updateEdgeLine, findEdgeLine, removeEdgeLine, removeNodeLine, neighborsLine, edgesLine, edgesMutLine, edgesBetweenLine, sumAroundLine, checkLine, clearEdgesLine, clearLine}
+use Rattle.commands.specs.Commands.{Replied, replied, addNodeLine, addEdgeLine, updateEdgeLine, removeEdgeLine, removeNodeLine, clearEdgesLine, clearLine}
+use Rattle.commands.specs.Commands.{findEdgeLine, neighborsLine, edgesLine, edgesMutLine, edgesBetweenLine, sumAroundLine, checkLine}
 use Rattle.dispatch.specs.declared.Numbers.{Numbers}
 
 -- what a run keeps from line to line: the network, and the output tables of its commands
@@ -42,24 +43,6 @@ changesAndGives s o = replied (o .reply) (state (o .after .0) (tables3 (o .after
 -- a line that is no command is told `? 10` and changes nothing
 abbrev pub noCommand : State → Replied State
 noCommand s = tells s (bareReply 63 (refusalNo NotCommand))
-
--- a letter is one of these
-abbrev pub among : ℕ → List ℕ → Bool
-among x [] = false
-among x (y ∷ ys) = cond (eqb x y) true (among x ys)
-
--- how many numbers stand behind a letter; 4, more than any command has, where it is none
-unfoldable pub operandsOf : ℕ → ℕ
-operandsOf letter =
-    -- E, U
-    cond (among letter (69 ∷ 85 ∷ [])) 3
-    -- F, B
-    (cond (among letter (70 ∷ 66 ∷ [])) 2
-    -- N, X, D, W, G, M, A
-    (cond (among letter (78 ∷ 88 ∷ 68 ∷ 87 ∷ 71 ∷ 77 ∷ 65 ∷ [])) 1
-    -- S, C, Z
-    (cond (among letter (83 ∷ 67 ∷ 90 ∷ [])) 0
-    4)))
 
 -- the command of a letter; a letter that is none is told `? 10`
 unfoldable pub step : ℕ → Numbers → State → Replied State

@@ -1,7 +1,10 @@
-// The letter of a script line chooses the command, and how many numbers it has.
+// The letter of a script line chooses the command.
 ghost use mathlib.Core.Path.{_≡_};
+ghost use Rattle.tables.specs.Net.{entering};
+ghost use Rattle.legs.specs.Legs.{tables3};
 ghost use Rattle.commands.specs.Commands.{replied};
-ghost use Rattle.dispatch.specs.Step.{operandsOf, step, found, left};
+ghost use Rattle.dispatch.specs.Step.{state, step, found, left};
+ghost use Rattle.dispatch.specs.Parts.{NotAdding, NotChanging};
 use commands::add_edge_line;
 use commands::add_node_line;
 use commands::check_line;
@@ -27,20 +30,8 @@ pub struct Numbers {
     pub c: u32,
 }
 
-// How many numbers stand behind a letter; no command has 4.
-pub fn operands_of(letter: u8) -> usize
-    ensures { λ r. ⌜ r ≡ operandsOf letter ⌝ }
-{
-    match letter {
-        b'E' | b'U' => 3,
-        b'F' | b'B' => 2,
-        b'N' | b'X' | b'D' | b'W' | b'G' | b'M' | b'A' => 1,
-        b'S' | b'C' | b'Z' => 0,
-        _ => 4,
-    }
-}
-
-// One command. The second and third table are for the ends of a G, which no line tells.
+// The command of a letter: those that add stand here, the others in the two functions below. The second and third table are for the ends
+// of a G, which no line tells.
 pub fn dispatch(
     weights: &mut [i32],
     heads: &mut [u32],
@@ -86,20 +77,50 @@ pub fn dispatch(
             o.b,
             o.c,
         ),
-        b'F' => find_edge_line(
+        _ => take_out(
             weights,
             heads,
             registers,
             links,
             ends,
-            nodes,
-            edges,
-            o.a,
-            o.b,
+            n,
+            m,
+            items,
+            sources,
+            targets,
+            letter,
+            o,
         ),
+    }
+}
+
+// The commands that take out.
+fn take_out(
+    weights: &mut [i32],
+    heads: &mut [u32],
+    registers: &mut [u32],
+    links: &mut [u32],
+    ends: &mut [u32],
+    n: &mut u32,
+    m: &mut u32,
+    items: &mut [u32],
+    sources: &mut [u32],
+    targets: &mut [u32],
+    letter: u8,
+    o: Numbers,
+) -> Reply
+    requires { ⌜ NotAdding letter ⌝ }
+    ensures { λ r. ⌜ replied r (left weights heads registers links ends n m items sources targets)
+        ≡ step letter o (found weights heads registers links ends n m items sources targets) ⌝ }
+{
+    let nodes = *n;
+    let edges = *m;
+    match letter {
         b'X' => remove_edge_line(weights, heads, registers, links, ends, nodes, m, o.a),
         b'D' => remove_node_line(weights, heads, registers, links, ends, n, m, o.a, items),
-        b'W' => neighbors_line(
+        b'C' => clear_edges_line(weights, heads, registers, links, ends, nodes, m),
+        b'Z' => clear_line(weights, heads, registers, links, ends, n, m),
+        _ => tell(
             weights,
             heads,
             registers,
@@ -107,49 +128,65 @@ pub fn dispatch(
             ends,
             nodes,
             edges,
-            o.a,
             items,
+            sources,
+            targets,
+            letter,
+            o,
         ),
+    }
+}
+
+// The commands that leave the network as it is.
+fn tell(
+    weights: &[i32],
+    heads: &[u32],
+    registers: &[u32],
+    links: &[u32],
+    ends: &[u32],
+    n: u32,
+    m: u32,
+    items: &mut [u32],
+    sources: &mut [u32],
+    targets: &mut [u32],
+    letter: u8,
+    o: Numbers,
+) -> Reply
+    requires { ⌜ NotChanging letter ⌝ }
+    ensures { λ r. ⌜ replied r (state (entering weights heads registers links ends n m) (tables3 (now (items .exit)) (now (sources .exit)) (now (targets .exit))))
+        ≡ step letter o (state (entering weights heads registers links ends n m) (tables3 (now (items .entry)) (now (sources .entry)) (now (targets .entry)))) ⌝ }
+{
+    match letter {
+        b'F' => find_edge_line(weights, heads, registers, links, ends, n, m, o.a, o.b),
+        b'W' => neighbors_line(weights, heads, registers, links, ends, n, m, o.a, items),
         b'G' => edges_line(
             weights,
             heads,
             registers,
             links,
             ends,
-            nodes,
-            edges,
+            n,
+            m,
             o.a,
             items,
             sources,
             targets,
         ),
-        b'M' => edges_mut_line(
-            weights,
-            heads,
-            registers,
-            links,
-            ends,
-            nodes,
-            edges,
-            o.a,
-            items,
-        ),
+        b'M' => edges_mut_line(weights, heads, registers, links, ends, n, m, o.a, items),
         b'B' => edges_between_line(
             weights,
             heads,
             registers,
             links,
             ends,
-            nodes,
-            edges,
+            n,
+            m,
             o.a,
             o.b,
             items,
         ),
-        b'A' => sum_around_line(weights, heads, registers, links, ends, nodes, edges, o.a),
-        b'S' => check_line(weights, heads, registers, links, ends, nodes, edges),
-        b'C' => clear_edges_line(weights, heads, registers, links, ends, nodes, m),
-        b'Z' => clear_line(weights, heads, registers, links, ends, n, m),
+        b'A' => sum_around_line(weights, heads, registers, links, ends, n, m, o.a),
+        b'S' => check_line(weights, heads, registers, links, ends, n, m),
         _ => Reply::bare(b'?', Refusal::NotCommand.number()),
     }
 }

@@ -1,14 +1,13 @@
 // Answers the script on standard input: its answer lines, then `! 7` where one of them did not fit; alone `! 1` where the
-// script is too long.
-ghost use mathlib.Core.Path.{_≡_};
+// script is too long. Which bytes these are is proved (`telling`); that they are read and written is C's.
 ghost use Rattle.io.specs.Counts.{Counts};
-use io::print_decimal;
 use io::write_all;
 use libc::STDERR_FILENO;
 use libc::STDIN_FILENO;
 use libc::STDOUT_FILENO;
 use script::MOST_BYTES;
-use script::net_run;
+use telling::parts::TOLD_BYTES;
+use telling::parts::tell_run;
 
 // One byte more than a script may have: where it is read too, the script is too long.
 const ROOM: usize = MOST_BYTES + 1;
@@ -60,35 +59,6 @@ fn read_rest() {
     }
 }
 
-// What a run came to: its answer number, and the bytes written.
-struct Answer {
-    number: u64,
-    bytes: usize,
-}
-
-fn run(script: &[u8], out: &mut [u8]) -> Answer
-    ensures { λ r. ⌜ Counts (r .bytes) (now (out .exit)) ⌝ }
-{
-    let told = net_run(script, out);
-    Answer {
-        number: told / 4294967296,
-        bytes: (told % 4294967296) as usize,
-    }
-}
-
-// The answer lines, and the number of a run that was not done.
-fn print(lines: &[u8], number: u64) -> bool {
-    if !write_all(STDOUT_FILENO, lines) {
-        return false;
-    }
-    if number == 0 {
-        return true;
-    }
-    write_all(STDOUT_FILENO, b"! ")
-        && print_decimal(STDOUT_FILENO, number)
-        && write_all(STDOUT_FILENO, b"\n")
-}
-
 fn main() {
     let mut script = [0u8; ROOM];
     let input = read_script(&mut script);
@@ -100,10 +70,9 @@ fn main() {
     if got == ROOM {
         read_rest();
     }
-    let mut out = [0u8; MOST_BYTES];
-    let answer = run(&script[..got], &mut out);
-    let written = answer.bytes;
-    if !print(&out[..written], answer.number) {
+    let mut out = [0u8; TOLD_BYTES];
+    let written = tell_run(&script[..got], &mut out);
+    if !write_all(STDOUT_FILENO, &out[..written]) {
         write_all(
             STDERR_FILENO,
             b"netrun: standard output cannot be written\n",

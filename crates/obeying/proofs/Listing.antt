@@ -1,5 +1,5 @@
 -- Whatever the line, its reply speaks of no more items than the first output table holds: `line-listed`, `listed-so`. By the way: a reply by its answer,
--- `reply-so`; a walk by what it gives, `walked-so`. Assumes nothing.
+-- `reply-so`; a walk by what it gives, `walked-so`.
 use Prim.Native.Nat.{ℕ, _≤_}
 use mathlib.Core.Path.{_≡_, sym, subst}
 use mathlib.Core.Bool.{not, _&&_}
@@ -26,7 +26,9 @@ use Rattle.stripping.specs.Heads.{stripped}
 use Rattle.reply.specs.declared.Reply.{Reply}
 use Rattle.reply.specs.Replies.{bareReply}
 use Rattle.reply.specs.Parts.{Listed}
-use Rattle.commands.specs.Commands.{Replied, replied, nothing, oneValue, oneNumber, counted, edgeGone, nodeGone, rowsRead, replyTo, addNodeLine, addEdgeLine, updateEdgeLine, findEdgeLine, removeEdgeLine, removeNodeLine, neighborsLine, edgesLine, edgesMutLine, edgesBetweenLine, sumAroundLine, checkLine, clearEdgesLine, clearLine}
+use Rattle.commands.specs.Commands.{Replied, replied, nothing, oneValue, oneNumber, counted, edgeGone, nodeGone, rowsRead, replyTo, addNodeLine, addEdgeLine}
+use Rattle.commands.specs.Commands.{updateEdgeLine, findEdgeLine, removeEdgeLine, removeNodeLine, neighborsLine, edgesLine, edgesMutLine, edgesBetweenLine}
+use Rattle.commands.specs.Commands.{sumAroundLine, checkLine, clearEdgesLine, clearLine}
 use Rattle.dispatch.specs.declared.Numbers.{Numbers}
 use Rattle.dispatch.specs.Step.{State, step}
 use Rattle.dispatch.proofs.Keeps.{step-ways}
@@ -87,7 +89,8 @@ abbrev Lists : Replied State → Type 0
 Lists r = r .reply .items ≤ length (r .after .tables .numbers)
 
 step-listed : (letter : ℕ) (o : Numbers) (s : State) → Lists (step letter o s)
-unfolding addNodeLine addEdgeLine updateEdgeLine findEdgeLine removeEdgeLine removeNodeLine neighborsLine edgesLine edgesMutLine edgesBetweenLine sumAroundLine checkLine clearEdgesLine clearLine neighbors edges edgesMut edgesBetween
+unfolding addNodeLine addEdgeLine updateEdgeLine findEdgeLine removeEdgeLine removeNodeLine neighborsLine edgesLine edgesMutLine edgesBetweenLine sumAroundLine
+    checkLine clearEdgesLine clearLine neighbors edges edgesMut edgesBetween
 step-listed letter o s =
     let g = s .network in
     let t = s .tables .numbers in

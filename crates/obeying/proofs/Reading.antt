@@ -1,5 +1,5 @@
 -- A line as it is read: the numbers behind its letter, `weight-bad` to `numbers-good`; then what it comes to, `empty-line` to `good-line`.
--- What holds of every command, and of none, holds of every line: `line-so`. Assumes nothing.
+-- What holds of every command, and of none, holds of every line: `line-so`.
 use Prim.Native.Nat.{ℕ, _≤_, _<_}
 use mathlib.Core.Path.{_≡_, refl, sym, ap, _∙_}
 use mathlib.Core.List.{List, [], _∷_}
@@ -18,8 +18,10 @@ use Rattle.text.specs.Parts.{threeOf, weightOf}
 use Rattle.reply.specs.declared.Reply.{Reply}
 use Rattle.reply.specs.Replies.{bareReply}
 use Rattle.commands.specs.Commands.{Replied, replied}
+use Rattle.letters.specs.Letters.{operandsOf}
 use Rattle.dispatch.specs.declared.Numbers.{Numbers}
-use Rattle.dispatch.specs.Step.{State, noCommand, operandsOf, step}
+use Rattle.dispatch.specs.Step.{State, noCommand, step}
+use Rattle.dispatch.specs.Parts.{NotAdding, NotChanging, NotTelling}
 use Rattle.dispatch.proofs.Letters.{of-none}
 use Rattle.obeying.specs.declared.parts.Behind.the-variants as Behind·
 use Rattle.obeying.specs.Line.{weightAlone, upToThree, numbersBehind, obeyed, lineAnswer}
@@ -68,25 +70,36 @@ module _ (letter : ℕ) (h : 3 < operandsOf letter) where
   no-letter : (x : ℕ) → operandsOf x ≤ 3 → letter ≡ x → ⊥
   no-letter x l k = omega (arith, ap operandsOf k)
 
-  unknown : (o : Numbers) (s : State) → noCommand s ≡ step letter o s
+  not-adding : NotAdding letter
   unfolding operandsOf
-  unknown o s =
-      of-none o s
-      (no-letter 78 (omega arith))
-      (no-letter 69 (omega arith))
-      (no-letter 85 (omega arith))
-      (no-letter 70 (omega arith))
-      (no-letter 88 (omega arith))
-      (no-letter 68 (omega arith))
-      (no-letter 87 (omega arith))
-      (no-letter 71 (omega arith))
-      (no-letter 77 (omega arith))
-      (no-letter 66 (omega arith))
-      (no-letter 65 (omega arith))
-      (no-letter 83 (omega arith))
-      (no-letter 67 (omega arith))
-      (no-letter 90 (omega arith))
-      refl
+  not-adding = record { not-N = no-letter 78 (omega arith); not-E = no-letter 69 (omega arith); not-U = no-letter 85 (omega arith) }
+
+  not-changing : NotChanging letter
+  unfolding operandsOf
+  not-changing =
+      record {
+        not-adding = not-adding;
+        not-X = no-letter 88 (omega arith);
+        not-D = no-letter 68 (omega arith);
+        not-C = no-letter 67 (omega arith);
+        not-Z = no-letter 90 (omega arith);
+      }
+
+  not-telling : NotTelling letter
+  unfolding operandsOf
+  not-telling =
+      record {
+        not-F = no-letter 70 (omega arith);
+        not-W = no-letter 87 (omega arith);
+        not-G = no-letter 71 (omega arith);
+        not-M = no-letter 77 (omega arith);
+        not-B = no-letter 66 (omega arith);
+        not-A = no-letter 65 (omega arith);
+        not-S = no-letter 83 (omega arith);
+      }
+
+  unknown : (o : Numbers) (s : State) → noCommand s ≡ step letter o s
+  unknown o s = of-none o s not-changing not-telling refl
 
   unknown-obeyed : (o : Option Numbers) (s : State) → noCommand s ≡ obeyed letter o s
   unknown-obeyed none s = refl

@@ -1,4 +1,4 @@
--- Whatever the line, there are as many edge rows as before, and every output table is as long as it was: `line-sizes`. Assumes nothing.
+-- Whatever the line, there are as many edge rows as before, and every output table is as long as it was: `line-sizes`.
 use Prim.Native.Nat.{ℕ, zero, suc, _-_, _≤_}
 use mathlib.Core.Path.{_≡_, refl, ap, _∙_}
 use mathlib.Core.Bool.{_&&_}
@@ -85,7 +85,9 @@ module _ (g : Net) where
       by-place (Leaves rows) (placeOf g e) _ _
       (λ s t read.
       tested (Leaves rows) (eqb e l) _ _
-      (by-place (Leaves rows) (placeOf (bypassed g e s t) l) _ _ (λ u v more. length-set (set (g .registers) e (getD (g .registers) l 0)) l 0 ∙ length-set (g .registers) e (getD (g .registers) l 0)) refl)
+      (by-place (Leaves rows) (placeOf (bypassed g e s t) l) _ _
+      (λ u v more. let w = getD (g .registers) l 0 in length-set (set (g .registers) e w) l 0 ∙ length-set (g .registers) e w)
+      refl)
       (λ q. length-set (g .registers) e 0))
       refl
 

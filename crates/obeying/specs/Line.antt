@@ -8,8 +8,9 @@ use lib.IntN.{ℤ, pos}
 use lib.ListN.{getD}
 use Rattle.text.specs.Numbers.{operands, weightOperand}
 use Rattle.commands.specs.Commands.{Replied}
+use Rattle.letters.specs.Letters.{operandsOf}
 use Rattle.dispatch.specs.declared.Numbers.{Numbers}
-use Rattle.dispatch.specs.Step.{State, noCommand, operandsOf, step}
+use Rattle.dispatch.specs.Step.{State, noCommand, step}
 
 -- the numbers of a command: a node weight, or up to three others; those that it has not are 0
 abbrev pub weightAlone : Option ℤ → Option Numbers

@@ -1,5 +1,5 @@
 -- A run writes no byte past its limit, `run-most`, `run-room`; it is told 0, 1 or 7, `run-number`. It writes whole lines only, those of the first so many
--- lines of the script, `run-whole`; where it is told 0, those of all, `run-all`. Assumes nothing.
+-- lines of the script, `run-whole`; where it is told 0, those of all, `run-all`.
 use Prim.Native.Nat.{ℕ, suc, _+_, _≤_, min}
 use mathlib.Core.Path.{_≡_, refl, sym, _∙_}
 use mathlib.Core.Logic.{_⊎_, inl, inr}

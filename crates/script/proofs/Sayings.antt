@@ -1,5 +1,5 @@
 -- With output tables of two items for each edge row no command is refused 7; and on a network that fits and is sound none is refused 1 or 6. So in a run
--- a line is told 0, 2, 3, 4, 5 or 10: `run-told`. Assumes nothing.
+-- a line is told 0, 2, 3, 4, 5 or 10: `run-told`.
 use Prim.Native.Nat.{ℕ, _*_, _-_, _≤_}
 use mathlib.Core.Path.{_≡_, refl}
 use mathlib.Core.Bool.{true, not, _&&_}
@@ -34,10 +34,13 @@ use Rattle.closing.specs.Closing.{closedIfRoom, removeNode}
 use Rattle.stripping.proofs.Others.{filter-fewer}
 use Rattle.text.specs.Lines.{lines}
 use Rattle.reply.specs.declared.Reply.{Reply}
-use Rattle.commands.specs.Commands.{nothing, oneValue, oneNumber, counted, edgeGone, nodeGone, rowsRead, replyTo, addNodeLine, addEdgeLine, updateEdgeLine, findEdgeLine, removeEdgeLine, removeNodeLine, neighborsLine, edgesLine, edgesMutLine, edgesBetweenLine, sumAroundLine, checkLine, clearEdgesLine, clearLine}
+use Rattle.commands.specs.Commands.{nothing, oneValue, oneNumber, counted, edgeGone, nodeGone, rowsRead, replyTo, addNodeLine, addEdgeLine, updateEdgeLine}
+use Rattle.commands.specs.Commands.{findEdgeLine, removeEdgeLine, removeNodeLine, neighborsLine, edgesLine, edgesMutLine, edgesBetweenLine, sumAroundLine}
+use Rattle.commands.specs.Commands.{checkLine, clearEdgesLine, clearLine}
 use Rattle.commands.proofs.Kept.{Sane}
+use Rattle.letters.specs.Letters.{among}
 use Rattle.dispatch.specs.declared.Numbers.{Numbers}
-use Rattle.dispatch.specs.Step.{State, among, step}
+use Rattle.dispatch.specs.Step.{State, step}
 use Rattle.dispatch.proofs.Keeps.{step-ways}
 use Rattle.obeying.specs.Line.{lineAnswer}
 use Rattle.script.specs.Script.{answers, Each, begun}
@@ -162,7 +165,8 @@ three-says g f a t n s r =
 
 module _ (letter : ℕ) (o : Numbers) (s : State) (h : Roomy s) where
   step-says : Says (step letter o s .reply .number)
-  unfolding addNodeLine addEdgeLine updateEdgeLine findEdgeLine removeEdgeLine removeNodeLine neighborsLine edgesLine edgesMutLine edgesBetweenLine sumAroundLine checkLine clearEdgesLine clearLine neighbors edges edgesMut edgesBetween
+  unfolding addNodeLine addEdgeLine updateEdgeLine findEdgeLine removeEdgeLine removeNodeLine neighborsLine edgesLine edgesMutLine edgesBetweenLine
+      sumAroundLine checkLine clearEdgesLine clearLine neighbors edges edgesMut edgesBetween
   step-says =
       let g = s .network in
       let f = h .sane .0 in
@@ -179,9 +183,12 @@ module _ (letter : ℕ) (o : Numbers) (s : State) (h : Roomy s) where
       (reply-says 88 edgeGone (removeEdge g a .answer) refl (removal-says g f a))
       (reply-says 68 nodeGone (removeNode g a t .answer) refl (closing-says g f a t (omega (arith, around-few g f Weight a, h .numbers-hold))))
       (reply-says 87 counted (neighbors g a t .answer) refl (gives-says g f a (around g Far a) t (omega (arith, around-few g f Far a, h .numbers-hold))))
-      (reply-says 71 counted (edges g a (s .tables) .answer) refl (walk-says g f a (s .tables) (giveThree (λ item. around g item a) (s .tables)) (three-says g f a (s .tables) (h .numbers-hold) (h .sources-hold) (h .targets-hold))))
+      (reply-says 71 counted (edges g a (s .tables) .answer) refl
+      (walk-says g f a (s .tables) (giveThree (λ item. around g item a) (s .tables))
+      (three-says g f a (s .tables) (h .numbers-hold) (h .sources-hold) (h .targets-hold))))
       (reply-says 77 counted (edgesMut g a t .answer) refl (gives-says g f a every t (omega (arith, two-few g f 1 0 Every Every a, h .numbers-hold))))
-      (reply-says 66 counted (edgesBetween g a b t .answer) refl (gives-says g f a between t (omega (arith, two-few g f 0 1 (To (record { 0 = b })) (ToNot (record { 0 = b }) (record { 0 = a })) a, h .numbers-hold))))
+      (reply-says 66 counted (edgesBetween g a b t .answer) refl
+      (gives-says g f a between t (omega (arith, two-few g f 0 1 (To (record { 0 = b })) (ToNot (record { 0 = b }) (record { 0 = a })) a, h .numbers-hold))))
       (reply-says 65 oneValue (sumAround g a) refl (sum-says g f a))
       (reply-says 83 rowsRead (toldChecked (checked g)) refl (rw (sound-0 g (h .sane .1 .0) f (h .sane .1 .1)) refl))
       (reply-says 67 nothing (clearEdges g .answer) refl (no-edges-says g f))

@@ -1,5 +1,5 @@
 -- An empty network fits and is sound, `empty-sane`. So the network in a run is always sound, `run-sound`, and no line of a run is told 6, `run-6`.
--- Assumes nothing.
+--
 use Prim.{tt}
 use Prim.Native.Nat.{ℕ, _*_, _≤_}
 use mathlib.Core.Path.{_≡_, refl}

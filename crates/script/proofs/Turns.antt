@@ -1,4 +1,4 @@
--- A run, line after line: where it starts, `started`; a line that fits, `turned`; one that does not, `stopped`; the end of the script, `ended`. Assumes nothing.
+-- A run, line after line: where it starts, `started`; a line that fits, `turned`; one that does not, `stopped`; the end of the script, `ended`.
 use Prim.Native.Nat.{ℕ, _+_, _≤_, _<_}
 use mathlib.Core.Path.{_≡_, refl, sym, ap, ap₂, _∙_}
 use mathlib.Core.List.{List, [], _∷_, _++_, map}
@@ -66,7 +66,7 @@ module _ (limit at : ℕ) (s : State) where
     left-stop h = rw (lt-leb (at + length (textOf o)) limit h)
 
 -- text at the front of an output
-front-is : (bytes text : List ℕ) → put bytes 0 text ≡ onto text bytes
+pub front-is : (bytes text : List ℕ) → put bytes 0 text ≡ onto text bytes
 unfolding put
 front-is bytes text = ap (λ n. text ++ drop n bytes) (zero-add (length text))
 

@@ -1,4 +1,4 @@
--- The whole run, from what its loop leaves: a script too long, `too-long`; else the bytes are few enough to be packed, `few-bytes`, and `packed-so`. Assumes nothing.
+-- The whole run, from what its loop leaves: a script too long, `too-long`; else the bytes are few enough to be packed, `few-bytes`, and `packed-so`.
 use Prim.Native.Nat.{ℕ, _+_, _*_, _^_, _≤_, _<_, min}
 use mathlib.Core.Path.{_≡_, ap, ap₂, _∙_}
 use mathlib.Core.List.{List}

@@ -1,4 +1,4 @@
--- Texts and what they mean, computed from the definitions. Each comment gives the text, `|` at both ends. Assumes nothing.
+-- Texts and what they mean, computed from the definitions. Each comment gives the text, `|` at both ends.
 use mathlib.Core.Path.{_≡_, refl}
 use mathlib.Core.List.{[], _∷_}
 use mathlib.Core.Option.{none, some}

@@ -1,4 +1,4 @@
--- Lines, one after the other. Assumes nothing.
+-- Lines, one after the other.
 use Prim.Native.Nat.{ℕ, suc, _+_, _≤_, _<_}
 use mathlib.Core.Path.{_≡_, refl, sym, ap, ap₂, subst, _∙_}
 use mathlib.Core.List.{List, [], _∷_}

@@ -1,4 +1,4 @@
--- From the digits read to what they spell: a number, a whole field, a node weight. Assumes nothing.
+-- From the digits read to what they spell: a number, a whole field, a node weight.
 use Prim.Native.Nat.{ℕ, _+_, _≤_, _<_}
 use mathlib.Core.Path.{_≡_, refl, sym, ap, _∙_}
 use mathlib.Core.Bool.{Bool, true, false}

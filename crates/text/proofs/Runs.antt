@@ -1,4 +1,4 @@
--- The digits that a text begins with, read one by one. Assumes nothing.
+-- The digits that a text begins with, read one by one.
 use Prim.Native.Nat.{ℕ, suc, _+_, _*_, _-_, _^_, _≤_, _<_}
 use mathlib.Core.Path.{_≡_, refl, sym, ap, ap₂, _∙_}
 use mathlib.Core.Bool.{Bool, true, false, cond, _&&_}

@@ -1,4 +1,4 @@
--- Operands read from the left, a space and the digits behind it at a time, are the numbers behind the spaces. Assumes nothing.
+-- Operands read from the left, a space and the digits behind it at a time, are the numbers behind the spaces.
 use Prim.Native.Nat.{ℕ, zero, suc, _+_, _-_, _≤_, _<_}
 use mathlib.Core.Path.{_≡_, refl, sym, ap, _∙_}
 use mathlib.Core.Bool.{Bool, true, false, cond}

@@ -1,4 +1,4 @@
--- What is printed is read back, so no two numbers have the same text. Assumes nothing.
+-- What is printed is read back, so no two numbers have the same text.
 use Prim.Native.Nat.{ℕ, zero, suc, _+_, _/_, _%_, _<_}
 use mathlib.Core.Path.{_≡_, sym, ap, _∙_}
 use mathlib.Core.Bool.{true}

@@ -1,4 +1,4 @@
--- `add_edge_line` meets its contract: what the call answers is replied. Assumes nothing.
+-- `add_edge_line` meets its contract: what the call answers is replied.
 use borrow.Author.Needs.{needs}
 use Rattle.commands.specs.Commands.{oneNumber, addEdgeLine}
 use Rattle.commands.proofs.Laws.{replies-so}
@@ -7,7 +7,9 @@ use Rattle.commands.proofs.add_edge_line.Tie as tie
 
 returns : tie.Need-returns
 unfolding addEdgeLine
-returns c = replies-so 69 oneNumber (c .edge-reply .ensures) (c .before .before .before .before .before .before .before .before .before .add-edge .ensures)
+returns c =
+    let after-add-edge : tie.After-add-edge = search in
+    replies-so 69 oneNumber (c .edge-reply .ensures) (after-add-edge .add-edge .ensures)
 
 pub add-edge-line-spec : {M : Type 1} → statement M
 add-edge-line-spec =

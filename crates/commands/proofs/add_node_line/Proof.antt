@@ -1,4 +1,4 @@
--- `add_node_line` meets its contract: what the call answers is replied. Assumes nothing.
+-- `add_node_line` meets its contract: what the call answers is replied.
 use borrow.Author.Needs.{needs}
 use mir.Facts.{toZ-ofZ}
 use Rattle.commands.specs.Commands.{oneNumber, addNodeLine}
@@ -8,7 +8,10 @@ use Rattle.commands.proofs.add_node_line.Tie as tie
 
 returns : tie.Need-returns
 unfolding addNodeLine
-returns c = replies-so 78 oneNumber (c .node-reply .ensures) (rw (toZ-ofZ (c .before .before .before .before .before .before .before .before .before .before .before .before .fits .w)) at (c .before .before .before .before .add-node .ensures))
+returns c =
+    let after-add-node : tie.After-add-node = search in
+    let start : tie.Start = search in
+    replies-so 78 oneNumber (c .node-reply .ensures) (rw (toZ-ofZ (start .fits .w)) at (after-add-node .add-node .ensures))
 
 pub add-node-line-spec : {M : Type 1} → statement M
 add-node-line-spec =

@@ -1,4 +1,4 @@
--- `clear_edges_line` meets its contract: what the call answers is replied. Assumes nothing.
+-- `clear_edges_line` meets its contract: what the call answers is replied.
 use borrow.Author.Needs.{needs}
 use Rattle.commands.specs.Commands.{nothing, clearEdgesLine}
 use Rattle.commands.proofs.Laws.{replies-so}
@@ -7,7 +7,9 @@ use Rattle.commands.proofs.clear_edges_line.Tie as tie
 
 returns : tie.Need-returns
 unfolding clearEdgesLine
-returns c = replies-so 67 nothing (c .changed-reply .ensures) (c .before .before .before .before .before .before .before .before .before .clear-edges .ensures)
+returns c =
+    let after-clear-edges : tie.After-clear-edges = search in
+    replies-so 67 nothing (c .changed-reply .ensures) (after-clear-edges .clear-edges .ensures)
 
 pub clear-edges-line-spec : {M : Type 1} → statement M
 clear-edges-line-spec =

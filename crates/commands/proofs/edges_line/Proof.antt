@@ -1,4 +1,4 @@
--- `edges_line` meets its contract: what the call answers is replied. Assumes nothing.
+-- `edges_line` meets its contract: what the call answers is replied.
 use borrow.Author.Needs.{needs}
 use Rattle.commands.specs.Commands.{counted, edgesLine}
 use Rattle.commands.proofs.Laws.{replies-so}
@@ -7,7 +7,9 @@ use Rattle.commands.proofs.edges_line.Tie as tie
 
 returns : tie.Need-returns
 unfolding edgesLine
-returns c = replies-so 71 counted (c .items-reply .ensures) (c .before .before .before .before .before .before .before .edges .ensures)
+returns c =
+    let after-edges : tie.After-edges = search in
+    replies-so 71 counted (c .items-reply .ensures) (after-edges .edges .ensures)
 
 pub edges-line-spec : {M : Type 1} → statement M
 edges-line-spec =

@@ -1,4 +1,4 @@
--- `neighbors_line` meets its contract: what the call answers is replied. Assumes nothing.
+-- `neighbors_line` meets its contract: what the call answers is replied.
 use borrow.Author.Needs.{needs}
 use Rattle.commands.specs.Commands.{counted, neighborsLine}
 use Rattle.commands.proofs.Laws.{replies-so}
@@ -7,7 +7,9 @@ use Rattle.commands.proofs.neighbors_line.Tie as tie
 
 returns : tie.Need-returns
 unfolding neighborsLine
-returns c = replies-so 87 counted (c .items-reply .ensures) (c .before .before .before .neighbors .ensures)
+returns c =
+    let after-neighbors : tie.After-neighbors = search in
+    replies-so 87 counted (c .items-reply .ensures) (after-neighbors .neighbors .ensures)
 
 pub neighbors-line-spec : {M : Type 1} → statement M
 neighbors-line-spec =

@@ -1,4 +1,4 @@
--- `remove_edge_line` meets its contract: what the call answers is replied. Assumes nothing.
+-- `remove_edge_line` meets its contract: what the call answers is replied.
 use borrow.Author.Needs.{needs}
 use Rattle.commands.specs.Commands.{edgeGone, removeEdgeLine}
 use Rattle.commands.proofs.Laws.{replies-so}
@@ -7,7 +7,9 @@ use Rattle.commands.proofs.remove_edge_line.Tie as tie
 
 returns : tie.Need-returns
 unfolding removeEdgeLine
-returns c = replies-so 88 edgeGone (c .edge-removed-reply .ensures) (c .before .before .before .before .before .before .before .before .before .remove-edge .ensures)
+returns c =
+    let after-remove-edge : tie.After-remove-edge = search in
+    replies-so 88 edgeGone (c .edge-removed-reply .ensures) (after-remove-edge .remove-edge .ensures)
 
 pub remove-edge-line-spec : {M : Type 1} → statement M
 remove-edge-line-spec =

@@ -1,4 +1,4 @@
--- `remove_node_line` meets its contract: what the call answers is replied. Assumes nothing.
+-- `remove_node_line` meets its contract: what the call answers is replied.
 use borrow.Author.Needs.{needs}
 use Rattle.commands.specs.Commands.{nodeGone, removeNodeLine}
 use Rattle.commands.proofs.Laws.{replies-so}
@@ -7,11 +7,15 @@ use Rattle.commands.proofs.remove_node_line.Statement.{statement}
 use Rattle.commands.proofs.remove_node_line.Tie as tie
 
 node-removed-reply-requires : tie.Need-node-removed-reply-requires
-node-removed-reply-requires c κs = few-so _ _ _ (c .before .before .before .before .before .before .before .before .before .before .before .remove-node .ensures)
+node-removed-reply-requires c κs =
+    let after-remove-node : tie.After-remove-node = search in
+    few-so _ _ _ (after-remove-node .remove-node .ensures)
 
 returns : tie.Need-returns
 unfolding removeNodeLine
-returns c = replies-so 68 nodeGone (c .node-removed-reply .ensures) (c .before .before .before .before .before .before .before .before .before .before .before .before .remove-node .ensures)
+returns c =
+    let after-remove-node : tie.After-remove-node = search in
+    replies-so 68 nodeGone (c .node-removed-reply .ensures) (after-remove-node .remove-node .ensures)
 
 pub remove-node-line-spec : {M : Type 1} → statement M
 remove-node-line-spec =

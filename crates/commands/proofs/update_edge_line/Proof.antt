@@ -1,4 +1,4 @@
--- `update_edge_line` meets its contract: what the call answers is replied. Assumes nothing.
+-- `update_edge_line` meets its contract: what the call answers is replied.
 use borrow.Author.Needs.{needs}
 use Rattle.commands.specs.Commands.{oneNumber, updateEdgeLine}
 use Rattle.commands.proofs.Laws.{replies-so}
@@ -7,7 +7,9 @@ use Rattle.commands.proofs.update_edge_line.Tie as tie
 
 returns : tie.Need-returns
 unfolding updateEdgeLine
-returns c = replies-so 85 oneNumber (c .edge-reply .ensures) (c .before .before .before .before .before .before .before .before .before .update-edge .ensures)
+returns c =
+    let after-update-edge : tie.After-update-edge = search in
+    replies-so 85 oneNumber (c .edge-reply .ensures) (after-update-edge .update-edge .ensures)
 
 pub update-edge-line-spec : {M : Type 1} → statement M
 update-edge-line-spec =

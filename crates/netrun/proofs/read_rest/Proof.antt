@@ -1,4 +1,4 @@
--- `netrun::read_rest` ends: one turn fewer is left each time. Assumes nothing.
+-- `netrun::read_rest` ends: one turn fewer is left each time.
 use borrow.Author.Needs.{needs}
 use Rattle.netrun.proofs.read_rest.Statement.{statement}
 use Rattle.netrun.proofs.read_rest.Tie as tie

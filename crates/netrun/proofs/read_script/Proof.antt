@@ -1,4 +1,4 @@
--- `netrun::read_script` meets its contract, and ends: what is read lies within the script, and each turn reads a byte at least. Assumes nothing.
+-- `netrun::read_script` meets its contract, and ends: what is read lies within the script, and each turn reads a byte at least.
 use Prim.Native.Nat.{_-_, _≤_}
 use mathlib.Core.Path.{_≡_, sym}
 use borrow.Author.Needs.{needs}

@@ -1,4 +1,4 @@
--- `replay::lend` meets its contract. Assumes nothing.
+-- `replay::lend` meets its contract.
 use mathlib.Core.Path.{sym}
 use native.Mathlib.Omega.{arith}
 use lib.Seq.{length-take-le}

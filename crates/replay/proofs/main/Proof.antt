@@ -1,4 +1,4 @@
--- `replay::main` ends: one script a turn. Assumes nothing.
+-- `replay::main` ends: one script a turn.
 use Prim.Native.Nat.{_-_, _≤_}
 use borrow.Author.Needs.{needs}
 use Rattle.replay.proofs.main.Statement.{statement}

@@ -1,4 +1,4 @@
--- `replay::touched` ends: one byte a turn. Assumes nothing.
+-- `replay::touched` ends: one byte a turn.
 use Prim.Native.Nat.{_-_, _≤_}
 use mathlib.Core.Logic.{⊎-elim}
 use borrow.Author.Needs.{needs}

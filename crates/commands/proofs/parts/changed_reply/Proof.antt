@@ -1,4 +1,4 @@
--- `parts::changed_reply` meets its contract: each arm by its law. Assumes nothing.
+-- `parts::changed_reply` meets its contract: each arm by its law.
 use borrow.Author.Needs.{needs}
 use Prim.{Unit, tt}
 use mathlib.Core.Path.{_∙_}
@@ -11,7 +11,9 @@ returns : tie.Need-returns
 returns c = rw (c .before .enum-told .given .1) (c .bare .ensures)
 
 returns-2 : tie.Need-returns-2
-returns-2 c = rw (c .before .before .answer .given .1) (c .refused .ensures ∙ refused-reply {A = Unit} _ nothing tt (c .before .before .answer .given .0 .0))
+returns-2 c =
+    let after-answer : tie.After-answer = search in
+    rw (after-answer .answer .given .1) (c .refused .ensures ∙ refused-reply {A = Unit} _ nothing tt (after-answer .answer .given .0 .0))
 
 pub changed-reply-spec : {M : Type 1} → statement M
 changed-reply-spec =

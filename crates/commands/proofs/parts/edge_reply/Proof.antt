@@ -1,4 +1,4 @@
--- `parts::edge_reply` meets its contract: each arm by its law. Assumes nothing.
+-- `parts::edge_reply` meets its contract: each arm by its law.
 use borrow.Author.Needs.{needs}
 use mathlib.Core.Path.{_∙_}
 use Rattle.commands.specs.Commands.{oneNumber}
@@ -7,10 +7,14 @@ use Rattle.commands.proofs.parts.edge_reply.Statement.{statement}
 use Rattle.commands.proofs.parts.edge_reply.Tie as tie
 
 returns : tie.Need-returns
-returns c = rw (c .before .before .before .answer .given .1) (number-so (c .value .ensures) (search needs))
+returns c =
+    let after-answer : tie.After-answer = search in
+    rw (after-answer .answer .given .1) (number-so (c .value .ensures) (search needs))
 
 returns-2 : tie.Need-returns-2
-returns-2 c = rw (c .before .before .answer2 .given .1) (c .refused .ensures ∙ refused-reply _ oneNumber 0 (c .before .before .answer2 .given .0 .0))
+returns-2 c =
+    let after-answer2 : tie.After-answer2 = search in
+    rw (after-answer2 .answer2 .given .1) (c .refused .ensures ∙ refused-reply _ oneNumber 0 (after-answer2 .answer2 .given .0 .0))
 
 pub edge-reply-spec : {M : Type 1} → statement M
 edge-reply-spec =

@@ -1,4 +1,4 @@
--- `parts::sum_reply` meets its contract: each arm by its law. Assumes nothing.
+-- `parts::sum_reply` meets its contract: each arm by its law.
 use borrow.Author.Needs.{needs}
 use mathlib.Core.Path.{_∙_}
 use lib.IntN.{pos}
@@ -10,10 +10,14 @@ use Rattle.commands.proofs.parts.sum_reply.Statement.{statement}
 use Rattle.commands.proofs.parts.sum_reply.Tie as tie
 
 returns : tie.Need-returns
-returns c = rw (c .before .before .answer .given .1) (rw (toZ-ofZ {w = w64} {z = c .before .before .answer .given .0 .0} (search needs)) at (c .value .ensures))
+returns c =
+    let after-answer : tie.After-answer = search in
+    rw (after-answer .answer .given .1) (rw (toZ-ofZ {w = w64} {z = after-answer .answer .given .0 .0} (search needs)) at (c .value .ensures))
 
 returns-2 : tie.Need-returns-2
-returns-2 c = rw (c .before .before .answer2 .given .1) (c .refused .ensures ∙ refused-reply _ oneValue (pos 0) (c .before .before .answer2 .given .0 .0))
+returns-2 c =
+    let after-answer2 : tie.After-answer2 = search in
+    rw (after-answer2 .answer2 .given .1) (c .refused .ensures ∙ refused-reply _ oneValue (pos 0) (after-answer2 .answer2 .given .0 .0))
 
 pub sum-reply-spec : {M : Type 1} → statement M
 sum-reply-spec =

@@ -1,4 +1,4 @@
--- `parts::width` meets its contract: the digits counted and those of what is left are together one more than x has. Assumes nothing.
+-- `parts::width` meets its contract: the digits counted and those of what is left are together one more than x has.
 use Prim.Native.Nat.{_+_, _≤_}
 use mathlib.Core.Path.{_≡_}
 use native.Mathlib.Omega.{arith}
@@ -20,7 +20,8 @@ loop-again c = (omega arith, omega (arith, one-more (c .before .loop .rest) (ome
 
 returns : tie.Need-returns Inv-loop μ-loop
 returns c =
-    let x = c .before .before .args .x in
+    let start : tie.Start Inv-loop μ-loop = search in
+    let x = start .args .x in
     let e : c .before .loop .wide ≡ length (digits x) = omega (arith, only-one (c .before .loop .rest) (omega arith)) in
     record { is = e; few = omega (arith, digits-few 19 x (omega arith)) }
 

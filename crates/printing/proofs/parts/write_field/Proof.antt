@@ -1,4 +1,4 @@
--- `parts::write_field` meets its contract: a space, then the number behind it. Assumes nothing.
+-- `parts::write_field` meets its contract: a space, then the number behind it.
 use native.Mathlib.Omega.{arith}
 use borrow.Author.Needs.{needs}
 use Rattle.printing.proofs.Putting.{writes-on}
@@ -7,8 +7,9 @@ use Rattle.printing.proofs.parts.write_field.Tie as tie
 
 returns : tie.Need-returns
 returns c =
-    let d = c .before .before in
-    writes-on (omega arith) (d .before .before .before .before .write-byte .ensures) (d .write-number .ensures)
+    let after-write-number : tie.After-write-number = search in
+    let after-write-byte : tie.After-write-byte = search in
+    writes-on (omega arith) (after-write-byte .write-byte .ensures) (after-write-number .write-number .ensures)
 
 pub write-field-spec : {M : Type 1} → statement M
 write-field-spec = tie.close (tie.spec (λ c κs. search needs) (λ c κs. search needs) (λ c. search needs) returns)

@@ -1,4 +1,4 @@
--- `parts::write_fields` meets its contract: with the fields left the bytes are what they are to be. Assumes nothing.
+-- `parts::write_fields` meets its contract: with the fields left the bytes are what they are to be.
 use Prim.Native.Nat.{ℕ, _+_, _-_, _≤_, _<_}
 use mathlib.Core.Path.{_≡_, refl, sym, ap, _∙_}
 use mathlib.Core.List.{List}
@@ -29,13 +29,16 @@ loop-holds : tie.Need-loop-holds Inv-loop μ-loop
 loop-holds c = record { within = omega arith; long = refl; to-write = refl; bytes = refl }
 
 cast-write-field : tie.Need-cast-write-field Inv-loop μ-loop
-cast-write-field c = omega (arith, c .shared-slice-known2 .given (c .before .before .before .loop .i))
+cast-write-field c =
+    let at-loop : tie.At-loop Inv-loop μ-loop = search in
+    omega (arith, c .shared-slice-known2 .given (at-loop .loop .i))
 
 write-field-requires : tie.Need-write-field-requires Inv-loop μ-loop
 write-field-requires c κs =
-    let l = c .before .before .before in
-    let s = l .before .before .before in
-    omega (arith, s .pre, fields-width-step (s .args .fields .now) (l .loop .i) (c .before .before .loop-test .taken))
+    let in-loop : tie.In-loop Inv-loop μ-loop = search in
+    let at-loop : tie.At-loop Inv-loop μ-loop = search in
+    let start : tie.Start Inv-loop μ-loop = search in
+    omega (arith, start .pre, fields-width-step (start .args .fields .now) (at-loop .loop .i) (in-loop .loop-test .taken))
 
 turn : {out₀ : List ℕ} {at : ℕ} {fields out after : List ℕ} {to i r : ℕ} → Going out₀ at fields out to i → i < length fields
     → at + length (fieldsText fields) ≤ length out₀ → length after ≡ length out → Writes out after to (field (digits (getD fields i 0))) r → Going out₀ at fields after r (i + 1)
@@ -52,9 +55,12 @@ turn {out₀} {at} {fields} {out} {after} {to} {i} {r} g h room l w =
 
 loop-again : tie.Need-loop-again Inv-loop μ-loop
 loop-again c =
-    let l = c .before .before .before .before .before .before in
-    let w = c .before .before .write-field in
-    turn (l .loop .inv) (c .before .before .before .before .before .loop-test .taken) (l .before .before .before .pre) (w .kept .0) (w .ensures)
+    let after-write-field : tie.After-write-field Inv-loop μ-loop = search in
+    let in-loop : tie.In-loop Inv-loop μ-loop = search in
+    let at-loop : tie.At-loop Inv-loop μ-loop = search in
+    let start : tie.Start Inv-loop μ-loop = search in
+    let w = after-write-field .write-field in
+    turn (at-loop .loop .inv) (in-loop .loop-test .taken) (start .pre) (w .kept .0) (w .ensures)
 
 done : {out₀ : List ℕ} {at : ℕ} {fields out : List ℕ} {to i : ℕ} → Going out₀ at fields out to i → length fields ≤ i → at + length (fieldsText fields) ≤ length out₀
     → Writes out₀ out at (fieldsText fields) to
@@ -63,7 +69,9 @@ done {out₀} {at} {fields} {out} {to} {i} g h room =
     record { bytes-are = (rw e at (g .bytes)) ∙ put-is out₀ at (fieldsText fields) room; ends-at = omega (arith, g .to-write, ap length e) }
 
 returns : tie.Need-returns Inv-loop μ-loop
-returns c = done (c .before .loop .inv) (c .loop-test .left) (c .before .before .before .before .pre)
+returns c =
+    let start : tie.Start Inv-loop μ-loop = search in
+    done (c .before .loop .inv) (c .loop-test .left) (start .pre)
 
 pub write-fields-spec : {M : Type 1} → statement M
 write-fields-spec =

@@ -1,4 +1,4 @@
--- `parts::write_number` meets its contract: what is left of x has k digits more, and with them the bytes are what they are to be. Assumes nothing.
+-- `parts::write_number` meets its contract: what is left of x has k digits more, and with them the bytes are what they are to be.
 use Prim.Native.Nat.{ℕ, zero, suc, _+_, _-_, _/_, _%_, _^_, _≤_, _<_}
 use mathlib.Core.Path.{_≡_, refl, sym, ap, _∙_}
 use mathlib.Core.List.{List}
@@ -84,16 +84,20 @@ glyph-requires c κs = let i = c .before .loop .inv in low (i .0) (i .1) (omega 
 
 slice-write-out : tie.Need-slice-write-out Inv-loop μ-loop
 slice-write-out c =
-    let i = c .before .before .loop .inv in
-    omega (arith, some-left (i .0) (c .before .before .loop .power) (i .1 .power-is) (omega arith))
+    let at-loop : tie.At-loop Inv-loop μ-loop = search in
+    let i = at-loop .loop .inv in
+    omega (arith, some-left (i .0) (at-loop .loop .power) (i .1 .power-is) (omega arith))
 
 loop-again : tie.Need-loop-again Inv-loop μ-loop
 loop-again c =
-    let i = c .before .before .loop .inv in
+    let at-loop : tie.At-loop Inv-loop μ-loop = search in
+    let i = at-loop .loop .inv in
     turn (c .glyph .result) (i .0) (i .1) (omega arith) (c .glyph .ensures)
 
 returns : tie.Need-returns Inv-loop μ-loop
-returns c = let i = c .before .loop .inv in done (i .0) (i .1) (c .before .before .before .before .pre) (omega arith)
+returns c =
+    let start : tie.Start Inv-loop μ-loop = search in
+    let i = c .before .loop .inv in done (i .0) (i .1) (start .pre) (omega arith)
 
 pub write-number-spec : {M : Type 1} → statement M
 write-number-spec =

@@ -1,4 +1,4 @@
--- `parts::write_signed` meets its contract: a `-` where it is negative, then its digits. Assumes nothing.
+-- `parts::write_signed` meets its contract: a `-` where it is negative, then its digits.
 use mathlib.Core.Path.{refl}
 use native.Mathlib.Omega.{arith}
 use borrow.Author.Needs.{needs}
@@ -9,32 +9,41 @@ use Rattle.printing.proofs.parts.write_signed.Tie as tie
 
 write-byte-requires : tie.Need-write-byte-requires
 write-byte-requires c κs =
-    let s = c .before .before .before in
-    let room = rw (signed-negative _ (s .fits .z) refl (c .before .if1 .taken)) at (s .pre) in
+    let start : tie.Start = search in
+    let room = rw (signed-negative _ (start .fits .z) refl (c .before .if1 .taken)) at (start .pre) in
     omega arith
 
 write-number-requires : tie.Need-write-number-requires
 write-number-requires c κs =
-    let s = c .before .before .before .before .before .before .before .before in
-    let room = rw (signed-negative _ (s .fits .z) (c .absolute .ensures) (c .before .before .before .before .before .before .if1 .taken)) at (s .pre) in
+    let then1 : tie.Then1 = search in
+    let start : tie.Start = search in
+    let room = rw (signed-negative _ (start .fits .z) (c .absolute .ensures) (then1 .if1 .taken)) at (start .pre) in
     omega arith
 
 returns : tie.Need-returns
 returns c =
-    let s = c .before .before .before .before .before .before .before .before .before .before .before in
-    let e = signed-negative _ (s .fits .z) (c .before .before .before .absolute .ensures) (c .before .before .before .before .before .before .before .before .before .if1 .taken) in
-    let room = rw e at (s .pre) in
-    rw e (writes-on (omega arith) (c .before .before .before .before .before .before .before .write-byte .ensures) (c .before .before .write-number .ensures))
+    let after-write-number : tie.After-write-number = search in
+    let after-absolute : tie.After-absolute = search in
+    let after-write-byte : tie.After-write-byte = search in
+    let then1 : tie.Then1 = search in
+    let start : tie.Start = search in
+    let e = signed-negative _ (start .fits .z) (after-absolute .absolute .ensures) (then1 .if1 .taken) in
+    let room = rw e at (start .pre) in
+    rw e (writes-on (omega arith) (after-write-byte .write-byte .ensures) (after-write-number .write-number .ensures))
 
 write-number-requires-2 : tie.Need-write-number-requires-2
 write-number-requires-2 c κs =
-    let s = c .before .before .before .before in
-    rw (signed-not-negative _ (s .fits .z) (c .absolute2 .ensures) (c .before .before .if1 .left)) at (s .pre)
+    let else1 : tie.Else1 = search in
+    let start : tie.Start = search in
+    rw (signed-not-negative _ (start .fits .z) (c .absolute2 .ensures) (else1 .if1 .left)) at (start .pre)
 
 returns-2 : tie.Need-returns-2
 returns-2 c =
-    let s = c .before .before .before .before .before .before .before in
-    rw (signed-not-negative _ (s .fits .z) (c .before .before .before .absolute2 .ensures) (c .before .before .before .before .before .if1 .left)) (c .before .before .write-number2 .ensures)
+    let after-write-number2 : tie.After-write-number2 = search in
+    let after-absolute2 : tie.After-absolute2 = search in
+    let else1 : tie.Else1 = search in
+    let start : tie.Start = search in
+    rw (signed-not-negative _ (start .fits .z) (after-absolute2 .absolute2 .ensures) (else1 .if1 .left)) (after-write-number2 .write-number2 .ensures)
 
 pub write-signed-spec : {M : Type 1} → statement M
 write-signed-spec =

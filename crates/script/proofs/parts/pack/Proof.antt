@@ -1,4 +1,4 @@
--- `parts::pack` meets its contract: the factor is 2 ^ 32. Assumes nothing.
+-- `parts::pack` meets its contract: the factor is 2 ^ 32.
 use borrow.Author.Needs.{needs}
 use mathlib.Core.Path.{refl}
 use Rattle.script.proofs.parts.pack.Statement.{statement}

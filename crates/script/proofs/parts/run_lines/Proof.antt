@@ -1,4 +1,4 @@
--- `parts::run_lines` meets its contract: what is written, and what the lines left come to, is what the whole script comes to. Assumes nothing.
+-- `parts::run_lines` meets its contract: what is written, and what the lines left come to, is what the whole script comes to.
 use Prim.Native.Nat.{ℕ, _-_}
 use mathlib.Core.Path.{_≡_, refl, _∙_}
 use mathlib.Core.List.{List}
@@ -52,43 +52,138 @@ loop-holds c =
       targets-long = refl;
     }
 
+-- from where a line's answer is known back to where its end is, to the head of the loop and to the start
+abbrev line : tie.After-answer-line Inv-loop μ-loop → tie.After-line-end Inv-loop μ-loop
+line c = search
+
+abbrev turn : tie.After-line-end Inv-loop μ-loop → tie.In-loop Inv-loop μ-loop
+turn c = search
+
+abbrev top : tie.In-loop Inv-loop μ-loop → tie.At-loop Inv-loop μ-loop
+top c = search
+
+abbrev begin : tie.At-loop Inv-loop μ-loop → tie.Start Inv-loop μ-loop
+begin c = search
+
 answer-line-requires : tie.Need-answer-line-requires Inv-loop μ-loop
-answer-line-requires c κs = let e = c .before .before .before .before .before .before .before .before .before .before .line-end .ensures in record { ordered = omega (arith, e .is); held = e .held }
+answer-line-requires c κs =
+    let e : tie.After-line-end Inv-loop μ-loop = search in
+    record { ordered = omega (arith, e .line-end .ensures .is); held = e .line-end .ensures .held }
 
 answer-requires : tie.Need-answer-requires Inv-loop μ-loop
 answer-requires c κs =
-    let i = c .before .before .before .before .before .before .before .before .before .before .before .before .before .before .before .before .before .before .before .before .before .before .before .before .before .before .before .before .before .before .loop .inv in
-    let p = c .before .before .before .before .before .before .before .before .before .before .before .before .before .before .before .before .before .before .before .before .before .before .before .before .before .before .before .before .before .before .before .before .before .before .before .before .before .before .before .before .pre in
-    let a = c .before .before .before .before .before .before .before .before .before .before .before .before .before .before .before .before .before .answer-line in (
-      listed-so _ _ (a .ensures) (omega (arith, a .kept .1 .1 .1 .1 .1 .1 .1 .1 .1 .1 .0, i .items-long, p .few)),
+    let a : tie.After-answer-line Inv-loop μ-loop = search in
+    let l = top (turn (line a)) in
+    let i = l .loop .inv in
+    let p = begin l .pre in (
+      listed-so _ _ (a .answer-line .ensures) (omega (arith, a .answer-line .kept .1 .1 .1 .1 .1 .1 .1 .1 .1 .1 .0, i .items-long, p .few)),
       record { within = i .going .within; held = omega (arith, i .out-long, p .held) },
     )
 
 returns : tie.Need-returns Inv-loop μ-loop
-returns c = stopped (c .before .before .before .before .before .before .before .before .before .before .before .before .before .before .before .before .before .before .before .before .before .before .before .before .before .before .before .before .before .before .before .before .before .before .before .before .loop .inv .going) (c .before .before .before .before .before .before .before .before .before .before .before .before .before .before .before .before .before .before .before .before .before .before .before .before .before .before .before .before .before .before .before .before .before .before .before .loop-test .taken) (c .before .before .before .before .before .before .before .before .before .before .before .before .before .before .before .before .before .before .before .before .before .before .before .before .before .before .before .before .before .before .before .before .before .before .line-end .ensures) (c .before .before .before .before .before .before .before .before .before .before .before .before .before .before .before .before .before .before .before .before .before .before .before .answer-line .ensures) (c .before .before .before .before .before .answer .ensures) (c .before .enum-told .given .1) (c .number .ensures) refl
+returns c =
+    let w : tie.After-answer Inv-loop μ-loop = search in
+    let a : tie.After-answer-line Inv-loop μ-loop = search in
+    let e = line a in
+    let l = turn e in
+    stopped
+    (top l .loop .inv .going)
+    (l .loop-test .taken)
+    (e .line-end .ensures)
+    (a .answer-line .ensures)
+    (w .answer .ensures)
+    (c .before .enum-told .given .1)
+    (c .number .ensures)
+    refl
 
 add-at : tie.Need-add-at Inv-loop μ-loop
-add-at c = record { fits = omega (arith, c .before .before .before .before .before .before .before .before .before .before .before .before .before .before .before .before .before .before .before .before .before .before .before .before .before .before .before .before .before .before .before .before .before .before .line-end .ensures .held, c .before .before .before .before .before .before .before .before .before .before .before .before .before .before .before .before .before .before .before .before .before .before .before .before .before .before .before .before .before .before .before .before .before .before .before .before .before .before .before .before .before .before .before .before .before .before .pre .short) }
+add-at c =
+    let a : tie.After-answer-line Inv-loop μ-loop = search in
+    let e = line a in
+    let s = begin (top (turn e)) in
+    record { fits = omega (arith, e .line-end .ensures .held, s .pre .short) }
 
 loop-less : tie.Need-loop-less Inv-loop μ-loop
-loop-less c = omega (arith, c .before .before .before .before .before .before .before .before .before .before .before .before .before .before .before .before .before .before .before .before .before .before .before .before .before .before .before .before .before .before .before .before .before .before .line-end .ensures .is, c .before .before .before .before .before .before .before .before .before .before .before .before .before .before .before .before .before .before .before .before .before .before .before .before .before .before .before .before .before .before .before .before .before .before .before .loop-test .taken)
+loop-less c =
+    let a : tie.After-answer-line Inv-loop μ-loop = search in
+    let e = line a in
+    omega (arith, e .line-end .ensures .is, turn e .loop-test .taken)
 
 loop-again : tie.Need-loop-again Inv-loop μ-loop
 loop-again c =
-    let i = c .before .before .before .before .before .before .before .before .before .before .before .before .before .before .before .before .before .before .before .before .before .before .before .before .before .before .before .before .before .before .before .before .before .before .before .before .loop .inv in
-    let l = c .before .before .before .before .before .before .before .before .before .before .before .before .before .before .before .before .before .before .before .before .before .before .before .answer-line .kept in
+    let w : tie.After-answer Inv-loop μ-loop = search in
+    let a : tie.After-answer-line Inv-loop μ-loop = search in
+    let e = line a in
+    let l = turn e in
+    let i = top l .loop .inv in
+    let k = a .answer-line .kept in
     record {
-      going = turned (i .going) (c .before .before .before .before .before .before .before .before .before .before .before .before .before .before .before .before .before .before .before .before .before .before .before .before .before .before .before .before .before .before .before .before .before .before .before .loop-test .taken) (c .before .before .before .before .before .before .before .before .before .before .before .before .before .before .before .before .before .before .before .before .before .before .before .before .before .before .before .before .before .before .before .before .before .before .line-end .ensures) (c .before .before .before .before .before .before .before .before .before .before .before .before .before .before .before .before .before .before .before .before .before .before .before .answer-line .ensures) (c .before .before .before .before .before .before .before .before .before .before .before .before .before .before .before .before .before .before .before .before .before .before .before .before .before .before .before .before .before .before .before .before .before .before .before .before .before .before .before .before .before .before .before .before .before .before .pre .held) (c .before .before .before .before .before .answer .ensures) (c .before .stop .given .1);
-      out-long = c .before .before .before .before .before .answer .kept .0 ∙ i .out-long;
-      weights-long = l .1 .1 .1 .0 ∙ i .weights-long;
-      heads-long = l .1 .1 .1 .1 .0 ∙ i .heads-long;
-      registers-long = l .1 .1 .1 .1 .1 .0 ∙ i .registers-long;
-      links-long = l .1 .1 .1 .1 .1 .1 .0 ∙ i .links-long;
-      ends-long = l .1 .1 .1 .1 .1 .1 .1 .0 ∙ i .ends-long;
-      items-long = l .1 .1 .1 .1 .1 .1 .1 .1 .1 .1 .0 ∙ i .items-long;
-      sources-long = l .1 .1 .1 .1 .1 .1 .1 .1 .1 .1 .1 .0 ∙ i .sources-long;
-      targets-long = l .1 .1 .1 .1 .1 .1 .1 .1 .1 .1 .1 .1 .0 ∙ i .targets-long;
+      going =
+          turned
+          (i .going)
+          (l .loop-test .taken)
+          (e .line-end .ensures)
+          (a .answer-line .ensures)
+          (begin (top l) .pre .held)
+          (w .answer .ensures)
+          (c .before .stop .given .1);
+      out-long = w .answer .kept .0 ∙ i .out-long;
+      weights-long = k .1 .1 .1 .0 ∙ i .weights-long;
+      heads-long = k .1 .1 .1 .1 .0 ∙ i .heads-long;
+      registers-long = k .1 .1 .1 .1 .1 .0 ∙ i .registers-long;
+      links-long = k .1 .1 .1 .1 .1 .1 .0 ∙ i .links-long;
+      ends-long = k .1 .1 .1 .1 .1 .1 .1 .0 ∙ i .ends-long;
+      items-long = k .1 .1 .1 .1 .1 .1 .1 .1 .1 .1 .0 ∙ i .items-long;
+      sources-long = k .1 .1 .1 .1 .1 .1 .1 .1 .1 .1 .1 .0 ∙ i .sources-long;
+      targets-long = k .1 .1 .1 .1 .1 .1 .1 .1 .1 .1 .1 .1 .0 ∙ i .targets-long;
     }
+
+-- where the answers stop, every table is as long as it was
+out-kept : tie.Need-same-length Inv-loop μ-loop
+out-kept c =
+    let w : tie.After-answer Inv-loop μ-loop = search in
+    let a : tie.After-answer-line Inv-loop μ-loop = search in
+    w .answer .kept .0 ∙ top (turn (line a)) .loop .inv .out-long
+
+weights-kept : tie.Need-same-length-2 Inv-loop μ-loop
+weights-kept c =
+    let a : tie.After-answer-line Inv-loop μ-loop = search in
+    a .answer-line .kept .1 .1 .1 .0 ∙ top (turn (line a)) .loop .inv .weights-long
+
+heads-kept : tie.Need-same-length-3 Inv-loop μ-loop
+heads-kept c =
+    let a : tie.After-answer-line Inv-loop μ-loop = search in
+    a .answer-line .kept .1 .1 .1 .1 .0 ∙ top (turn (line a)) .loop .inv .heads-long
+
+registers-kept : tie.Need-same-length-4 Inv-loop μ-loop
+registers-kept c =
+    let a : tie.After-answer-line Inv-loop μ-loop = search in
+    a .answer-line .kept .1 .1 .1 .1 .1 .0 ∙ top (turn (line a)) .loop .inv .registers-long
+
+links-kept : tie.Need-same-length-5 Inv-loop μ-loop
+links-kept c =
+    let a : tie.After-answer-line Inv-loop μ-loop = search in
+    a .answer-line .kept .1 .1 .1 .1 .1 .1 .0 ∙ top (turn (line a)) .loop .inv .links-long
+
+ends-kept : tie.Need-same-length-6 Inv-loop μ-loop
+ends-kept c =
+    let a : tie.After-answer-line Inv-loop μ-loop = search in
+    a .answer-line .kept .1 .1 .1 .1 .1 .1 .1 .0 ∙ top (turn (line a)) .loop .inv .ends-long
+
+items-kept : tie.Need-same-length-7 Inv-loop μ-loop
+items-kept c =
+    let a : tie.After-answer-line Inv-loop μ-loop = search in
+    a .answer-line .kept .1 .1 .1 .1 .1 .1 .1 .1 .1 .1 .0 ∙ top (turn (line a)) .loop .inv .items-long
+
+sources-kept : tie.Need-same-length-8 Inv-loop μ-loop
+sources-kept c =
+    let a : tie.After-answer-line Inv-loop μ-loop = search in
+    a .answer-line .kept .1 .1 .1 .1 .1 .1 .1 .1 .1 .1 .1 .0 ∙ top (turn (line a)) .loop .inv .sources-long
+
+targets-kept : tie.Need-same-length-9 Inv-loop μ-loop
+targets-kept c =
+    let a : tie.After-answer-line Inv-loop μ-loop = search in
+    a .answer-line .kept .1 .1 .1 .1 .1 .1 .1 .1 .1 .1 .1 .1 .0 ∙ top (turn (line a)) .loop .inv .targets-long
 
 returns-2 : tie.Need-returns-2 Inv-loop μ-loop
 returns-2 c = ended (c .before .loop .inv .going) (c .loop-test .left) refl refl
@@ -106,15 +201,15 @@ run-lines-spec =
     (λ c. search needs)
     (λ c. search needs)
     (λ c κs. search needs)
-    (λ c. c .before .before .before .before .before .answer .kept .0 ∙ c .before .before .before .before .before .before .before .before .before .before .before .before .before .before .before .before .before .before .before .before .before .before .before .before .before .before .before .before .before .before .before .before .before .before .before .before .loop .inv .out-long)
-    (λ c. c .before .before .before .before .before .before .before .before .before .before .before .before .before .before .before .before .before .before .before .before .before .before .before .answer-line .kept .1 .1 .1 .0 ∙ c .before .before .before .before .before .before .before .before .before .before .before .before .before .before .before .before .before .before .before .before .before .before .before .before .before .before .before .before .before .before .before .before .before .before .before .before .loop .inv .weights-long)
-    (λ c. c .before .before .before .before .before .before .before .before .before .before .before .before .before .before .before .before .before .before .before .before .before .before .before .answer-line .kept .1 .1 .1 .1 .0 ∙ c .before .before .before .before .before .before .before .before .before .before .before .before .before .before .before .before .before .before .before .before .before .before .before .before .before .before .before .before .before .before .before .before .before .before .before .before .loop .inv .heads-long)
-    (λ c. c .before .before .before .before .before .before .before .before .before .before .before .before .before .before .before .before .before .before .before .before .before .before .before .answer-line .kept .1 .1 .1 .1 .1 .0 ∙ c .before .before .before .before .before .before .before .before .before .before .before .before .before .before .before .before .before .before .before .before .before .before .before .before .before .before .before .before .before .before .before .before .before .before .before .before .loop .inv .registers-long)
-    (λ c. c .before .before .before .before .before .before .before .before .before .before .before .before .before .before .before .before .before .before .before .before .before .before .before .answer-line .kept .1 .1 .1 .1 .1 .1 .0 ∙ c .before .before .before .before .before .before .before .before .before .before .before .before .before .before .before .before .before .before .before .before .before .before .before .before .before .before .before .before .before .before .before .before .before .before .before .before .loop .inv .links-long)
-    (λ c. c .before .before .before .before .before .before .before .before .before .before .before .before .before .before .before .before .before .before .before .before .before .before .before .answer-line .kept .1 .1 .1 .1 .1 .1 .1 .0 ∙ c .before .before .before .before .before .before .before .before .before .before .before .before .before .before .before .before .before .before .before .before .before .before .before .before .before .before .before .before .before .before .before .before .before .before .before .before .loop .inv .ends-long)
-    (λ c. c .before .before .before .before .before .before .before .before .before .before .before .before .before .before .before .before .before .before .before .before .before .before .before .answer-line .kept .1 .1 .1 .1 .1 .1 .1 .1 .1 .1 .0 ∙ c .before .before .before .before .before .before .before .before .before .before .before .before .before .before .before .before .before .before .before .before .before .before .before .before .before .before .before .before .before .before .before .before .before .before .before .before .loop .inv .items-long)
-    (λ c. c .before .before .before .before .before .before .before .before .before .before .before .before .before .before .before .before .before .before .before .before .before .before .before .answer-line .kept .1 .1 .1 .1 .1 .1 .1 .1 .1 .1 .1 .0 ∙ c .before .before .before .before .before .before .before .before .before .before .before .before .before .before .before .before .before .before .before .before .before .before .before .before .before .before .before .before .before .before .before .before .before .before .before .before .loop .inv .sources-long)
-    (λ c. c .before .before .before .before .before .before .before .before .before .before .before .before .before .before .before .before .before .before .before .before .before .before .before .answer-line .kept .1 .1 .1 .1 .1 .1 .1 .1 .1 .1 .1 .1 .0 ∙ c .before .before .before .before .before .before .before .before .before .before .before .before .before .before .before .before .before .before .before .before .before .before .before .before .before .before .before .before .before .before .before .before .before .before .before .before .loop .inv .targets-long)
+    out-kept
+    weights-kept
+    heads-kept
+    registers-kept
+    links-kept
+    ends-kept
+    items-kept
+    sources-kept
+    targets-kept
     returns
     add-at
     loop-less

@@ -1,4 +1,4 @@
--- `parts::is_digit` meets its contract: each `return` rewrites with the test that led there. Assumes nothing.
+-- `parts::is_digit` meets its contract: each `return` rewrites with the test that led there.
 use native.Mathlib.Omega.{arith}
 use borrow.Author.Tests.{lt-leb, le-leb}
 use Rattle.text.proofs.parts.is_digit.Statement.{statement}

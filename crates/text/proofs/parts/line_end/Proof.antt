@@ -1,4 +1,4 @@
--- `parts::line_end` meets its contract: the bytes passed and those of the line left are those of the line. Assumes nothing.
+-- `parts::line_end` meets its contract: the bytes passed and those of the line left are those of the line.
 use Prim.Native.Nat.{_+_, _-_, _≤_}
 use mathlib.Core.Path.{_≡_}
 use native.Mathlib.Omega.{arith}
@@ -19,19 +19,26 @@ abbrev μ-loop : tie.MeasureT-loop
 
 returns : tie.Need-returns Inv-loop μ-loop
 returns c =
-    let l = c .before .before .before .loop in
-    let e = mark-here newline (c .before .before .before .before .args .script .now) (l .i) (c .before .before .loop-test .taken) (c .if1 .taken) in
+    let in-loop : tie.In-loop Inv-loop μ-loop = search in
+    let at-loop : tie.At-loop Inv-loop μ-loop = search in
+    let start : tie.Start Inv-loop μ-loop = search in
+    let l = at-loop .loop in
+    let e = mark-here newline (start .args .script .now) (l .i) (in-loop .loop-test .taken) (c .if1 .taken) in
     record { is = omega (arith, l .inv .1); held = l .inv .0 }
 
 loop-again : tie.Need-loop-again Inv-loop μ-loop
 loop-again c =
-    let l = c .before .before .before .loop in
-    (omega arith, omega (arith, l .inv .1, mark-later newline (c .before .before .before .before .args .script .now) (l .i) (c .before .before .loop-test .taken) (c .if1 .left)))
+    let in-loop : tie.In-loop Inv-loop μ-loop = search in
+    let at-loop : tie.At-loop Inv-loop μ-loop = search in
+    let start : tie.Start Inv-loop μ-loop = search in
+    let l = at-loop .loop in
+    (omega arith, omega (arith, l .inv .1, mark-later newline (start .args .script .now) (l .i) (in-loop .loop-test .taken) (c .if1 .left)))
 
 returns-2 : tie.Need-returns-2 Inv-loop μ-loop
 returns-2 c =
+    let start : tie.Start Inv-loop μ-loop = search in
     let l = c .before .loop in
-    let e = mark-never newline (c .before .before .args .script .now) (l .i) (c .loop-test .left) in
+    let e = mark-never newline (start .args .script .now) (l .i) (c .loop-test .left) in
     record { is = omega (arith, l .inv .1); held = l .inv .0 }
 
 pub line-end-spec : {M : Type 1} → statement M

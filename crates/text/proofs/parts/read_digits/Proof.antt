@@ -1,4 +1,4 @@
--- `parts::read_digits` meets its contract: the digits read are those that the text begins with. Assumes nothing.
+-- `parts::read_digits` meets its contract: the digits read are those that the text begins with.
 use Prim.Native.Nat.{ℕ, _-_, _≤_}
 use mathlib.Core.Path.{sym, _∙_}
 use mathlib.Core.Logic.{⊎-elim}
@@ -21,45 +21,62 @@ loop-holds : tie.Need-loop-holds Inv-loop μ-loop
 loop-holds c = (_, start (c .before .pre))
 
 sub-if2 : tie.Need-sub-if2 Inv-loop μ-loop
-sub-if2 c = let r = c .before .before .before .before .loop .inv .1 in omega (arith, r .many)
+sub-if2 c =
+    let at-loop : tie.At-loop Inv-loop μ-loop = search in
+    let r = at-loop .loop .inv .1 in omega (arith, r .many)
 
 returns : tie.Need-returns Inv-loop μ-loop
 returns c =
-    let l = c .before .before .before .before .before in
-    let r = l .loop .inv .1 in
-    let t = sym (c .before .before .is-digit .ensures) ∙ not-false _ (c .before .if1 .left) in
-    eleventh (l .before .before .pre) r (c .before .before .before .before .loop-test .taken) t (omega (arith, c .if2 .taken, r .many))
+    let after-is-digit : tie.After-is-digit Inv-loop μ-loop = search in
+    let in-loop : tie.In-loop Inv-loop μ-loop = search in
+    let at-loop : tie.At-loop Inv-loop μ-loop = search in
+    let start : tie.Start Inv-loop μ-loop = search in
+    let r = at-loop .loop .inv .1 in
+    let t = sym (after-is-digit .is-digit .ensures) ∙ not-false _ (c .before .if1 .left) in
+    eleventh (start .pre) r (in-loop .loop-test .taken) t (omega (arith, c .if2 .taken, r .many))
 
 mul-value : tie.Need-mul-value Inv-loop μ-loop
 mul-value c =
-    let l = c .before .before .before .before .before in
-    let r = l .loop .inv .1 in
-    record { fits = omega (arith, below (l .before .before .pre) r (omega (arith, c .if2 .left, r .many, r .few))) }
+    let at-loop : tie.At-loop Inv-loop μ-loop = search in
+    let start : tie.Start Inv-loop μ-loop = search in
+    let r = at-loop .loop .inv .1 in
+    record { fits = omega (arith, below (start .pre) r (omega (arith, c .if2 .left, r .many, r .few))) }
 
 digit-requires : tie.Need-digit-requires Inv-loop μ-loop
-digit-requires c κs = digit-range _ (sym (c .before .before .is-digit .ensures) ∙ not-false _ (c .before .if1 .left)) .0
+digit-requires c κs =
+    let after-is-digit : tie.After-is-digit Inv-loop μ-loop = search in
+    digit-range _ (sym (after-is-digit .is-digit .ensures) ∙ not-false _ (c .before .if1 .left)) .0
 
 add-value : tie.Need-add-value Inv-loop μ-loop
 add-value c =
-    let l = c .before .before .before .before .before .before in
-    let r = l .loop .inv .1 in
-    let t = sym (c .before .before .before .is-digit .ensures) ∙ not-false _ (c .before .before .if1 .left) in
-    let n : length (l .loop .inv .0) ≤ 9 = omega (arith, c .before .if2 .left, r .many, r .few) in
-    record { fits = omega (arith, grown (l .before .before .pre) r (c .before .before .before .before .before .loop-test .taken) t (c .digit .ensures) n) }
+    let else1 : tie.Else1 Inv-loop μ-loop = search in
+    let after-is-digit : tie.After-is-digit Inv-loop μ-loop = search in
+    let in-loop : tie.In-loop Inv-loop μ-loop = search in
+    let at-loop : tie.At-loop Inv-loop μ-loop = search in
+    let start : tie.Start Inv-loop μ-loop = search in
+    let r = at-loop .loop .inv .1 in
+    let t = sym (after-is-digit .is-digit .ensures) ∙ not-false _ (else1 .if1 .left) in
+    let n : length (at-loop .loop .inv .0) ≤ 9 = omega (arith, c .before .if2 .left, r .many, r .few) in
+    record { fits = omega (arith, grown (start .pre) r (in-loop .loop-test .taken) t (c .digit .ensures) n) }
 
 loop-again : tie.Need-loop-again Inv-loop μ-loop
 loop-again c =
-    let l = c .before .before .before .before .before .before in
-    let r = l .loop .inv .1 in
-    let t = sym (c .before .before .before .is-digit .ensures) ∙ not-false _ (c .before .before .if1 .left) in
-    let n : length (l .loop .inv .0) ≤ 9 = omega (arith, c .before .if2 .left, r .many, r .few) in
-    (_, more (l .before .before .pre) r (c .before .before .before .before .before .loop-test .taken) t (c .digit .ensures) n)
+    let else1 : tie.Else1 Inv-loop μ-loop = search in
+    let after-is-digit : tie.After-is-digit Inv-loop μ-loop = search in
+    let in-loop : tie.In-loop Inv-loop μ-loop = search in
+    let at-loop : tie.At-loop Inv-loop μ-loop = search in
+    let start : tie.Start Inv-loop μ-loop = search in
+    let r = at-loop .loop .inv .1 in
+    let t = sym (after-is-digit .is-digit .ensures) ∙ not-false _ (else1 .if1 .left) in
+    let n : length (at-loop .loop .inv .0) ≤ 9 = omega (arith, c .before .if2 .left, r .many, r .few) in
+    (_, more (start .pre) r (in-loop .loop-test .taken) t (c .digit .ensures) n)
 
 returns-2 : tie.Need-returns-2 Inv-loop μ-loop
 returns-2 c =
-    let l = c .before .before in
-    let r = l .loop .inv .1 in
-    let p = l .before .before .pre in
+    let at-loop : tie.At-loop Inv-loop μ-loop = search in
+    let start : tie.Start Inv-loop μ-loop = search in
+    let r = at-loop .loop .inv .1 in
+    let p = start .pre in
     let stops =
     ⊎-elim
     (λ w. at-end p r (w .left))
@@ -69,9 +86,10 @@ returns-2 c =
 
 returns-3 : tie.Need-returns-3 Inv-loop μ-loop
 returns-3 c =
-    let l = c .before .before in
-    let r = l .loop .inv .1 in
-    let p = l .before .before .pre in
+    let at-loop : tie.At-loop Inv-loop μ-loop = search in
+    let start : tie.Start Inv-loop μ-loop = search in
+    let r = at-loop .loop .inv .1 in
+    let p = start .pre in
     let stops =
     ⊎-elim
     (λ w. at-end p r (w .left))

@@ -1,4 +1,4 @@
--- `parts::read_operands` meets its contract: the numbers stored and those left to scan are the operands. Assumes nothing.
+-- `parts::read_operands` meets its contract: the numbers stored and those left to scan are the operands.
 use Prim.Native.Nat.{_-_}
 use mathlib.Core.Path.{sym, _∙_}
 use native.Mathlib.Omega.{arith}
@@ -18,19 +18,27 @@ loop-holds c = start _ (c .before .pre .0)
 
 returns : tie.Need-returns Inv-loop μ-loop
 returns c =
-    let l = c .before .before .before .before in
-    field-refused (l .loop .inv) (c .before .before .before .loop-test .taken) (sym (c .enum-told .given .1) ∙ c .before .before .read-field .ensures)
+    let after-read-field : tie.After-read-field Inv-loop μ-loop = search in
+    let in-loop : tie.In-loop Inv-loop μ-loop = search in
+    let at-loop : tie.At-loop Inv-loop μ-loop = search in
+    field-refused (at-loop .loop .inv) (in-loop .loop-test .taken) (sym (c .enum-told .given .1) ∙ after-read-field .read-field .ensures)
 
 loop-again : tie.Need-loop-again Inv-loop μ-loop
 loop-again c =
-    let l = c .before .before .before .before .before in
-    field-stored (l .loop .inv) (c .before .before .before .before .loop-test .taken) (sym (c .before .x .given .1) ∙ c .before .before .before .read-field .ensures)
+    let after-read-field : tie.After-read-field Inv-loop μ-loop = search in
+    let in-loop : tie.In-loop Inv-loop μ-loop = search in
+    let at-loop : tie.At-loop Inv-loop μ-loop = search in
+    field-stored (at-loop .loop .inv) (in-loop .loop-test .taken) (sym (c .before .x .given .1) ∙ after-read-field .read-field .ensures)
 
 returns-2 : tie.Need-returns-2 Inv-loop μ-loop
-returns-2 c = more-there (c .before .before .loop .inv) (c .before .loop-test .left) (λ h. omega arith)
+returns-2 c =
+    let at-loop : tie.At-loop Inv-loop μ-loop = search in
+    more-there (at-loop .loop .inv) (c .before .loop-test .left) (λ h. omega arith)
 
 returns-3 : tie.Need-returns-3 Inv-loop μ-loop
-returns-3 c = all-there (c .before .before .loop .inv) (c .before .loop-test .left) (omega arith)
+returns-3 c =
+    let at-loop : tie.At-loop Inv-loop μ-loop = search in
+    all-there (at-loop .loop .inv) (c .before .loop-test .left) (omega arith)
 
 pub read-operands-spec : {M : Type 1} → statement M
 read-operands-spec =

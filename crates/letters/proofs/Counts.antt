@@ -1,11 +1,11 @@
--- How many numbers stand behind each letter. Assumes nothing.
+-- `operandsOf` at each letter, `has-3` to `has-0`, and at any other, `has-4`.
 use Prim.Native.Nat.{ℕ, _+_, _≤_, _<_}
 use mathlib.Core.Path.{_≡_}
 use mathlib.Core.Logic.{_⊎_, inl, inr, ⊎-elim}
 use native.Mathlib.Decide.{ℕ-discrete}
 use native.Mathlib.Omega.{arith}
 use borrow.Author.Tests.{ne-eqb}
-use Rattle.dispatch.specs.Step.{operandsOf}
+use Rattle.letters.specs.Letters.{operandsOf}
 
 -- one of two neighbours
 pub pair : (x a : ℕ) → a ≤ x → x < a + 2 → (x ≡ a) ⊎ (x ≡ a + 1)

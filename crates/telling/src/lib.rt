@@ -1,0 +1,2 @@
+// A run as it is printed: its answer lines, and behind them how it ended.
+pub mod parts;
