@@ -51,7 +51,8 @@ use Rattle.image.specs.Calls.{imageWrite, imageRead}
 use Rattle.image.proofs.RoundTrip as RoundTrip
 use Rattle.text.specs.Lines.{lines}
 use Rattle.commands.specs.Commands.{Replied}
-use Rattle.dispatch.specs.Step.{State, among}
+use Rattle.letters.specs.Letters.{among}
+use Rattle.dispatch.specs.Step.{State}
 use Rattle.script.specs.Script.{mostBytes, textOf, answers, Each, Ran, ran, printed, begun, run}
 use Rattle.script.proofs.Sayings.{run-told}
 use Rattle.demands.specs.Demand1.{ServedOr, served, refused-by, Refuses, Tells, stepRefusal, loadRefusal, linesThatFit, firstLines, runRefusal, SixExactly, Demand1}

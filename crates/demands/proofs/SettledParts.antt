@@ -1,9 +1,10 @@
 -- The contract of each part settles it: a second answer that meets it is equal. Assumes nothing.
 use Prim.{tt}
+use Prim.Native.Nat.{ℕ}
 use mathlib.Core.Path.{ap, sym, _∙_}
-use mathlib.Core.List.{[]}
+use mathlib.Core.List.{List, []}
 use lib.ListN.{length}
-use Rattle.tables.specs.Answers.{toldChange, toldItems, onto}
+use Rattle.tables.specs.Answers.{Out, toldChange, toldItems, onto}
 use Rattle.removal.specs.Removal.{toldEdgeRemoved}
 use Rattle.closing.specs.Closing.{toldNodeRemoved}
 use Rattle.tables.proofs.Told.{change-told-once, items-told-once}
@@ -65,11 +66,14 @@ lists-picks κs given x y p q = answers-alike p q
 pub lists-first : Settles lists.parts.first.ended lists.parts.first.Reads.Post
 lists-first κs given x y p q = answers-alike p q
 
-pub lists-count : Settles lists.parts.count.ended lists.parts.count.Reads.Post
-lists-count κs given x y p q = answers-alike p q
+pub lists-count-both : Settles lists.parts.count_both.ended lists.parts.count_both.Reads.Post
+lists-count-both κs given x y p q = answers-alike p q
+
+pub lists-count-taken : Settles lists.parts.count_taken.ended lists.parts.count_taken.Reads.Post
+lists-count-taken κs given x y p q = answers-alike p q
 
 pub lists-give : Settles lists.parts.give.ended lists.parts.give.Reads.Post
-lists-give κs given x y p q = ap (λ l. (_, (_, (_, (_, (_, (_, (_, (_, (_, (_, (l, _)))))))))))) (alike p q)
+lists-give κs given x y p q = ap (λ (o : Out ℕ (List ℕ)). (o .answer .values, (_, (_, (_, (_, (_, (_, (_, (_, (_, (o .after, _)))))))))))) (alike p q)
 
 pub legs-along : Settles legs.parts.along.ended legs.parts.along.Reads.Post
 legs-along κs given x y p q = answers-alike p q
@@ -78,7 +82,7 @@ pub legs-settle : Settles legs.parts.settle.ended legs.parts.settle.Reads.Post
 legs-settle κs given x y p q = answers-alike p q
 
 pub legs-give-both : Settles legs.parts.give_both.ended legs.parts.give_both.Reads.Post
-legs-give-both κs given x y p q = ap (λ l. (_, (_, (_, (_, (_, (_, (_, (_, (_, (_, (_, (_, (l, _)))))))))))))) (alike p q)
+legs-give-both κs given x y p q = ap (λ (o : Out ℕ (List ℕ)). (o .answer .values, (_, (_, (_, (_, (_, (_, (_, (_, (_, (o .after, _)))))))))))) (alike p q)
 
 pub legs-walk : Settles legs.parts.walk.ended legs.parts.walk.Reads.Post
 legs-walk κs given x y p q = ap (λ o. (o .0, (_, (_, (_, (_, (_, (_, (_, (o .1, _)))))))))) (told-alike toldItems items-told-once p q)

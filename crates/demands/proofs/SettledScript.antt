@@ -5,9 +5,11 @@ use Rattle.printing.proofs as printing
 use Rattle.text.proofs as text
 use Rattle.reply.proofs as reply
 use Rattle.commands.proofs as commands
+use Rattle.letters.proofs as letters
 use Rattle.dispatch.proofs as dispatch
 use Rattle.obeying.proofs as obeying
 use Rattle.script.proofs as script
+use Rattle.telling.proofs as telling
 use Rattle.demands.specs.Settles.{Settles, SettlesAll}
 use Rattle.demands.proofs.Alike.{alike, answers-alike, allColumns, nodeColumns, edgeColumns, noColumns}
 
@@ -137,7 +139,7 @@ commands-edge-removed-reply κs given x y p q = answers-alike p q
 pub commands-node-removed-reply : Settles commands.parts.node_removed_reply.ended commands.parts.node_removed_reply.Reads.Post
 commands-node-removed-reply κs given x y p q = answers-alike p q
 
-pub operands-of : SettlesAll dispatch.operands_of.ended dispatch.operands_of.Reads.Pre dispatch.operands_of.Reads.Post
+pub operands-of : SettlesAll letters.operands_of.ended letters.operands_of.Reads.Pre letters.operands_of.Reads.Post
 operands-of = (λ κs given. tt, λ κs given x y p q. answers-alike p q)
 
 pub dispatch-command : SettlesAll dispatch.dispatch.ended dispatch.dispatch.Reads.Pre dispatch.dispatch.Reads.Post
@@ -163,3 +165,9 @@ script-limit-of κs given x y p q = answers-alike p q
 
 pub script-pack : Settles script.parts.pack.ended script.parts.pack.Reads.Post
 script-pack κs given x y p q = answers-alike p q
+
+pub telling-write-ending : Settles telling.parts.write_ending.ended telling.parts.write_ending.Reads.Post
+telling-write-ending κs given x y p q = λ i. (alike (p .ends-at) (q .ends-at) i, (alike (p .bytes-are) (q .bytes-are) i, _))
+
+pub telling-tell-run : Settles telling.parts.tell_run.ended telling.parts.tell_run.Reads.Post
+telling-tell-run κs given x y p q = λ i. (alike (p .writes .ends-at) (q .writes .ends-at) i, (_, (alike (p .writes .bytes-are) (q .writes .bytes-are) i, _)))
