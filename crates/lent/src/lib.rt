@@ -3,6 +3,7 @@ ghost use mathlib.Core.Path.{_≡_};
 ghost use Rattle.tables.specs.Net.{entering};
 ghost use Rattle.tables.specs.Answers.{out, toldNode};
 ghost use Rattle.walker.specs.Steps.{step};
+use index::NodeIndex;
 use tables::NodeAnswer;
 use walker::Step;
 use walker::Walker;
@@ -27,10 +28,13 @@ fn advance(
     ensures { λ r. ⌜ out (toldNode (r .answer)) (r .walker) ≡ step (entering weights heads registers links ends n m) w ⌝ }
 {
     match w.step(weights, heads, registers, links, ends, n, m) {
-        Step::Neighbor(b, on) => Moved {
-            walker: on,
-            answer: NodeAnswer::Node(b),
-        },
+        Step::Neighbor(b, on) => {
+            let neighbor: NodeIndex = b;
+            Moved {
+                walker: on,
+                answer: NodeAnswer::Node(neighbor),
+            }
+        }
         Step::Stopped(why, at) => Moved {
             walker: at,
             answer: NodeAnswer::Refused(why),
