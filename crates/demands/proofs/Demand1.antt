@@ -181,7 +181,9 @@ each-listed [] h = tt
 each-listed (o ∷ others) h = (in-list (o .reply .number) (0 ∷ 2 ∷ 3 ∷ 4 ∷ 5 ∷ 10 ∷ []) (h .0), each-listed others (h .1))
 
 pub demand-1 : Demand1
-unfolding nodeWeight edgeWeight edgeEndpoints firstEdge nextEdge setNodeWeight setEdgeWeight addNode allEdgeWeights clearEdges clear neighbors edgeWeights edgesBetween edgesMut edges findEdge containsEdge updateEdge begin step sumAround checked removeEdge takenOut gone lastMoved removeNode closedIfRoom imageWrite imageRead readOne settled
+unfolding nodeWeight edgeWeight edgeEndpoints firstEdge nextEdge setNodeWeight setEdgeWeight addNode allEdgeWeights clearEdges clear neighbors
+    edgeWeights edgesBetween edgesMut edges findEdge containsEdge updateEdge begin step sumAround checked removeEdge takenOut gone lastMoved
+    removeNode closedIfRoom imageWrite imageRead readOne settled
 demand-1 =
     record {
       node-weight = λ g a. if-not (fits g) 1 refl (if-not (ltb a (g .n)) 3 refl (served refl));

@@ -6,7 +6,7 @@ use Rattle.exportrows.proofs as exportrows
 use Rattle.exportlists.proofs as exportlists
 use Rattle.exportremovals.proofs as exportremovals
 use Rattle.demands.specs.Settles.{Settles, SettlesAll}
-use Rattle.demands.proofs.Alike.{alike, answers-alike}
+use Rattle.demands.proofs.Alike.{alike, answers-alike, allColumns, nodeColumns, edgeColumns, noColumns}
 
 pub cells-tell-node : Settles cells.parts.tell_node.ended cells.parts.tell_node.Reads.Post
 cells-tell-node κs given x y p q = ap (λ o. (o .number, (_, (o .values, _)))) (alike p q)
@@ -78,19 +78,19 @@ pub net-set-edge-weight : SettlesAll exportrows.net_set_edge_weight.ended export
 net-set-edge-weight = (λ κs given. tt, λ κs given x y p q. ap (λ o. (o .answer .number, (_, (_, (o .after .registers, _))))) (alike p q))
 
 pub net-add-node : SettlesAll exportrows.net_add_node.ended exportrows.net_add_node.Reads.Pre exportrows.net_add_node.Reads.Post
-net-add-node = (λ κs given. tt, λ κs given x y p q. ap (λ o. (o .answer .number, (o .after .weights, (o .after .heads, (_, (_, (_, (o .after .n, (_, (_, (o .answer .values, _))))))))))) (alike p q))
+net-add-node = (λ κs given. tt, λ κs given x y p q. ap (λ o. (o .answer .number, nodeColumns (o .after) (_, (o .answer .values, _)))) (alike p q))
 
 pub net-add-edge : SettlesAll exportrows.net_add_edge.ended exportrows.net_add_edge.Reads.Pre exportrows.net_add_edge.Reads.Post
-net-add-edge = (λ κs given. tt, λ κs given x y p q. ap (λ o. (o .answer .number, (_, (o .after .heads, (o .after .registers, (o .after .links, (o .after .ends, (_, (o .after .m, (_, (_, (_, (o .answer .values, _))))))))))))) (alike p q))
+net-add-edge = (λ κs given. tt, λ κs given x y p q. ap (λ o. (o .answer .number, edgeColumns (o .after) (_, (_, (_, (o .answer .values, _)))))) (alike p q))
 
 pub net-all-edge-weights : SettlesAll exportrows.net_all_edge_weights.ended exportrows.net_all_edge_weights.Reads.Pre exportrows.net_all_edge_weights.Reads.Post
 net-all-edge-weights = (λ κs given. tt, λ κs given x y p q. ap (λ o. (o .answer .number, (_, (_, (_, (_, (_, (_, (_, (o .after, (o .answer .values, _))))))))))) (alike p q))
 
 pub net-clear-edges : SettlesAll exportrows.net_clear_edges.ended exportrows.net_clear_edges.Reads.Pre exportrows.net_clear_edges.Reads.Post
-net-clear-edges = (λ κs given. tt, λ κs given x y p q. ap (λ o. (o .answer .number, (_, (o .after .heads, (o .after .registers, (o .after .links, (o .after .ends, (_, (o .after .m, _))))))))) (alike p q))
+net-clear-edges = (λ κs given. tt, λ κs given x y p q. ap (λ o. (o .answer .number, edgeColumns (o .after) _)) (alike p q))
 
 pub net-clear : SettlesAll exportrows.net_clear.ended exportrows.net_clear.Reads.Pre exportrows.net_clear.Reads.Post
-net-clear = (λ κs given. tt, λ κs given x y p q. ap (λ o. (o .answer .number, (o .after .weights, (o .after .heads, (o .after .registers, (o .after .links, (o .after .ends, (o .after .n, (o .after .m, _))))))))) (alike p q))
+net-clear = (λ κs given. tt, λ κs given x y p q. ap (λ o. (o .answer .number, allColumns (o .after) _)) (alike p q))
 
 pub net-neighbors : SettlesAll exportlists.net_neighbors.ended exportlists.net_neighbors.Reads.Pre exportlists.net_neighbors.Reads.Post
 net-neighbors = (λ κs given. tt, λ κs given x y p q. ap (λ o. (o .answer .number, (_, (_, (_, (_, (_, (_, (_, (_, (o .after, (o .answer .values, _)))))))))))) (alike p q))
@@ -108,7 +108,10 @@ pub net-edge-weights-mut : SettlesAll exportlists.net_edge_weights_mut.ended exp
 net-edge-weights-mut = (λ κs given. tt, λ κs given x y p q. ap (λ o. (o .answer .number, (_, (_, (_, (_, (_, (_, (_, (_, (o .after, (o .answer .values, _)))))))))))) (alike p q))
 
 pub net-edges : SettlesAll exportlists.net_edges.ended exportlists.net_edges.Reads.Pre exportlists.net_edges.Reads.Post
-net-edges = (λ κs given. tt, λ κs given x y p q. ap (λ o. (o .answer .number, (_, (_, (_, (_, (_, (_, (_, (_, (o .after .numbers, (o .after .sources, (o .after .targets, (o .answer .values, _)))))))))))))) (alike p q))
+net-edges = (
+  λ κs given. tt,
+  λ κs given x y p q. ap (λ o. (o .answer .number, noColumns (_, (o .after .numbers, (o .after .sources, (o .after .targets, (o .answer .values, _))))))) (alike p q),
+)
 
 pub net-find-edge : SettlesAll exportlists.net_find_edge.ended exportlists.net_find_edge.Reads.Pre exportlists.net_find_edge.Reads.Post
 net-find-edge = (λ κs given. tt, λ κs given x y p q. ap (λ o. (o .number, (_, (_, (_, (_, (_, (_, (_, (_, (_, (o .values, _)))))))))))) (alike p q))
@@ -117,7 +120,7 @@ pub net-contains-edge : SettlesAll exportlists.net_contains_edge.ended exportlis
 net-contains-edge = (λ κs given. tt, λ κs given x y p q. ap (λ o. (o .number, (_, (_, (_, (_, (_, (_, (_, (_, (_, (o .values, _)))))))))))) (alike p q))
 
 pub net-update-edge : SettlesAll exportlists.net_update_edge.ended exportlists.net_update_edge.Reads.Pre exportlists.net_update_edge.Reads.Post
-net-update-edge = (λ κs given. tt, λ κs given x y p q. ap (λ o. (o .answer .number, (_, (o .after .heads, (o .after .registers, (o .after .links, (o .after .ends, (_, (o .after .m, (_, (_, (_, (o .answer .values, _))))))))))))) (alike p q))
+net-update-edge = (λ κs given. tt, λ κs given x y p q. ap (λ o. (o .answer .number, edgeColumns (o .after) (_, (_, (_, (o .answer .values, _)))))) (alike p q))
 
 pub net-sum-around : SettlesAll exportlists.net_sum_around.ended exportlists.net_sum_around.Reads.Pre exportlists.net_sum_around.Reads.Post
 net-sum-around = (λ κs given. tt, λ κs given x y p q. ap (λ o. (o .number, (_, (_, (_, (_, (_, (_, (_, (_, (o .values, _))))))))))) (alike p q))
@@ -132,13 +135,19 @@ pub net-walker-next : SettlesAll exportlists.net_walker_next.ended exportlists.n
 net-walker-next = (λ κs given. tt, λ κs given x y p q. ap (λ o. (o .answer .number, (_, (_, (_, (_, (_, (_, (_, (o .after, (o .answer .values, _))))))))))) (alike p q))
 
 pub net-remove-edge : SettlesAll exportremovals.net_remove_edge.ended exportremovals.net_remove_edge.Reads.Pre exportremovals.net_remove_edge.Reads.Post
-net-remove-edge = (λ κs given. tt, λ κs given x y p q. ap (λ o. (o .answer .number, (_, (o .after .heads, (o .after .registers, (o .after .links, (o .after .ends, (_, (o .after .m, (_, (o .answer .values .0, (o .answer .values .1, (o .answer .values .2, _))))))))))))) (alike p q))
+net-remove-edge = (
+  λ κs given. tt,
+  λ κs given x y p q. ap (λ o. (o .answer .number, edgeColumns (o .after) (_, (o .answer .values .0, (o .answer .values .1, (o .answer .values .2, _)))))) (alike p q),
+)
 
 pub net-remove-node : SettlesAll exportremovals.net_remove_node.ended exportremovals.net_remove_node.Reads.Pre exportremovals.net_remove_node.Reads.Post
-net-remove-node = (λ κs given. tt, λ κs given x y p q. ap (λ o. (o .answer .number, (o .after .0 .weights, (o .after .0 .heads, (o .after .0 .registers, (o .after .0 .links, (o .after .0 .ends, (o .after .0 .n, (o .after .0 .m, (_, (o .after .1, (o .answer .values .0, (o .answer .values .1, (o .answer .values .2, _)))))))))))))) (alike p q))
+net-remove-node = (
+  λ κs given. tt,
+  λ κs given x y p q. ap (λ o. (o .answer .number, allColumns (o .after .0) (_, (o .after .1, (o .answer .values .0, (o .answer .values .1, (o .answer .values .2, _))))))) (alike p q),
+)
 
 pub net-image-write : SettlesAll exportremovals.net_image_write.ended exportremovals.net_image_write.Reads.Pre exportremovals.net_image_write.Reads.Post
 net-image-write = (λ κs given. tt, λ κs given x y p q. ap (λ o. (o .answer .number, (_, (_, (_, (_, (_, (_, (_, (o .after, (o .answer .values, _))))))))))) (alike p q))
 
 pub net-image-read : SettlesAll exportremovals.net_image_read.ended exportremovals.net_image_read.Reads.Pre exportremovals.net_image_read.Reads.Post
-net-image-read = (λ κs given. tt, λ κs given x y p q. ap (λ o. (o .answer .number, (o .after .weights, (o .after .heads, (o .after .registers, (o .after .links, (o .after .ends, (o .after .n, (o .after .m, _))))))))) (alike p q))
+net-image-read = (λ κs given. tt, λ κs given x y p q. ap (λ o. (o .answer .number, allColumns (o .after) _)) (alike p q))

@@ -37,7 +37,11 @@ pub tables-write-edge : Settles tables.parts.write_edge.ended tables.parts.write
 tables-write-edge κs given x y p q = λ i. (_, (alike (p .registers-are) (q .registers-are) i, (alike (p .links-are) (q .links-are) i, (alike (p .ends-are) (q .ends-are) i, _))))
 
 pub tables-link-edge : Settles tables.parts.link_edge.ended tables.parts.link_edge.Reads.Post
-tables-link-edge κs given x y p q = λ i. (_, (alike (p .heads-are) (q .heads-are) i, (alike (p .row-is .registers-are) (q .row-is .registers-are) i, (alike (p .row-is .links-are) (q .row-is .links-are) i, (alike (p .row-is .ends-are) (q .row-is .ends-are) i, _)))))
+tables-link-edge κs given x y p q =
+    let registers = alike (p .row-is .registers-are) (q .row-is .registers-are) in
+    let links = alike (p .row-is .links-are) (q .row-is .links-are) in
+    let ends = alike (p .row-is .ends-are) (q .row-is .ends-are) in
+    λ i. (_, (alike (p .heads-are) (q .heads-are) i, (registers i, (links i, (ends i, _)))))
 
 pub tables-fill : Settles tables.parts.fill.ended tables.parts.fill.Reads.Post
 tables-fill κs given x y p q = ap (λ l. (_, (l, _))) (alike p q)
@@ -141,7 +145,10 @@ pub dropping-move-node : Settles dropping.parts.move_node.ended dropping.parts.m
 dropping-move-node κs given x y p q = λ i. (_, (alike (p .weights-are) (q .weights-are) i, (alike (p .heads-are) (q .heads-are) i, _)))
 
 pub dropping-drop-node : Settles dropping.parts.drop_node.ended dropping.parts.drop_node.Reads.Post
-dropping-drop-node κs given x y p q = λ i. (alike (p .rows-are) (q .rows-are) i, (alike (p .moved .weights-are) (q .moved .weights-are) i, (alike (p .moved .heads-are) (q .moved .heads-are) i, (_, (alike (p .ends-are) (q .ends-are) i, (alike (p .nodes) (q .nodes) i, _))))))
+dropping-drop-node κs given x y p q =
+    let weights = alike (p .moved .weights-are) (q .moved .weights-are) in
+    let heads = alike (p .moved .heads-are) (q .moved .heads-are) in
+    λ i. (alike (p .rows-are) (q .rows-are) i, (weights i, (heads i, (_, (alike (p .ends-are) (q .ends-are) i, (alike (p .nodes) (q .nodes) i, _))))))
 
 pub closing-take-node : Settles closing.parts.take_node.ended closing.parts.take_node.Reads.Post
 closing-take-node κs given x y p q = ap (λ o. (o .0, allColumns (o .1 .0) (_, (o .1 .1, _)))) (told-alike toldNodeRemoved node-removed-told-once p q)

@@ -143,7 +143,11 @@ pub operands-of : SettlesAll letters.operands_of.ended letters.operands_of.Reads
 operands-of = (λ κs given. tt, λ κs given x y p q. answers-alike p q)
 
 pub dispatch-command : SettlesAll dispatch.dispatch.ended dispatch.dispatch.Reads.Pre dispatch.dispatch.Reads.Post
-dispatch-command = (λ κs given. tt, λ κs given x y p q. ap (λ o. (o .reply, allColumns (o .after .network) (o .after .tables .numbers, (o .after .tables .sources, (o .after .tables .targets, _))))) (alike p q))
+dispatch-command = (
+  λ κs given. tt,
+  λ κs given x y p q.
+      ap (λ o. (o .reply, allColumns (o .after .network) (o .after .tables .numbers, (o .after .tables .sources, (o .after .tables .targets, _))))) (alike p q),
+)
 
 pub net-run : SettlesAll script.net_run.ended script.net_run.Reads.Pre script.net_run.Reads.Post
 net-run = (λ κs given. tt, λ κs given x y p q. ap (λ o. (o .0, (_, (o .1, _)))) (alike p q))

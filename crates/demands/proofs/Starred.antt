@@ -24,5 +24,8 @@ use Rattle.obeying.specs.Line.{numbersBehind, lineAnswer}
 use Rattle.demands.specs.Starred.{CasesHold}
 
 pub cases-hold : CasesHold
-unfolding networkA lineAnswer numbersBehind operandsOf operands fields before magnitude step neighborsLine findEdgeLine sumAroundLine removeEdgeLine removeNodeLine lineOf digits spelt fieldsText neighbors findEdge soughtFrom sumAround removeEdge removeNode fit walk stop checked oneWay upTo walked closedIfRoom stripped emptied dropped takenOut gone lastMoved lastInto lastOut bypassed led headsAt linksAt located searched seek withEdge withNode
+unfolding networkA lineAnswer numbersBehind operandsOf operands fields before magnitude step neighborsLine findEdgeLine sumAroundLine removeEdgeLine
+    removeNodeLine lineOf digits spelt fieldsText neighbors findEdge soughtFrom sumAround removeEdge removeNode fit walk stop checked oneWay upTo
+    walked closedIfRoom stripped emptied dropped takenOut gone lastMoved lastInto lastOut bypassed led headsAt linksAt located searched seek withEdge
+    withNode
 cases-hold = refl
