@@ -1,15 +1,14 @@
 -- The ending of a run, by its answer number: `ending-0`, `ending-1`, `ending-7`; it takes four bytes at most, `run-ending`. A run with its ending behind
 -- it is what is printed of it: `told-so`.
-use Prim.Native.Nat.{ℕ, _+_, _*_, _^_, _/_, _%_, _≤_, min}
-use mathlib.Core.Path.{_≡_, refl, sym, ap, ap₂, _∙_}
-use mathlib.Core.Logic.{_⊎_, inl, inr, ⊎-elim}
+use Prim.Native.Nat.{ℕ, _+_, _/_, _%_, _≤_, min}
+use mathlib.Core.Path.{_≡_, refl, sym, ap, _∙_}
+use mathlib.Core.Logic.{⊎-elim}
 use mathlib.Core.List.{List, [], _∷_, _++_}
 use native.Mathlib.Nat.{min-eq-right, zero-add}
 use native.Mathlib.Omega.{arith}
 use borrow.Author.Tests.{ne-eqb}
 use lib.ListN.{length, length-append}
 use lib.Seq.{length-take-le}
-use Rattle.tables.specs.Answers.{onto}
 use Rattle.printing.specs.Bytes.{newline}
 use Rattle.printing.specs.Digits.{digits, spelt, field}
 use Rattle.printing.specs.Parts.{Writes}
