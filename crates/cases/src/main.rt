@@ -12,6 +12,8 @@ use index::NodeIndex;
 use libc::STDIN_FILENO;
 use script::parts::run_lines;
 use tables::Changed;
+use tables::parts::EDGE_CELLS;
+use tables::parts::NODE_CELLS;
 
 mod show;
 
@@ -31,10 +33,10 @@ fn run(script: &[u8])
 {
     let mut out = [0u8; 1024];
     let mut weights = [0i32; 3];
-    let mut heads = [EdgeIndex::END.0; 6];
+    let mut heads = [EdgeIndex::END.0; NODE_CELLS * 3];
     let mut registers = [0u32; 5];
-    let mut links = [EdgeIndex::END.0; 10];
-    let mut ends = [NodeIndex::END.0; 10];
+    let mut links = [EdgeIndex::END.0; EDGE_CELLS * 5];
+    let mut ends = [NodeIndex::END.0; EDGE_CELLS * 5];
     let mut n = 0;
     let mut m = 0;
     let mut items = [0u32; 8];
@@ -74,7 +76,7 @@ fn one_node() {
     let mut bytes = [0u8; 25];
     image_write(
         &[-3],
-        &[EdgeIndex::END.0, EdgeIndex::END.0],
+        &[EdgeIndex::END.0; NODE_CELLS],
         &[],
         &[],
         &[],
@@ -89,7 +91,7 @@ fn one_node() {
 
 fn read(bytes: &[u8]) {
     let mut weights = [0i32; 1];
-    let mut heads = [EdgeIndex::END.0; 2];
+    let mut heads = [EdgeIndex::END.0; NODE_CELLS];
     let mut n = 0;
     let mut m = 0;
     let answer = image_read(

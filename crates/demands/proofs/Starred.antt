@@ -19,7 +19,8 @@ use Rattle.printing.specs.Digits.{spelt, digits, fieldsText}
 use Rattle.text.specs.Numbers.{magnitude, fields, operands}
 use Rattle.reply.specs.Replies.{lineOf}
 use Rattle.commands.specs.Commands.{neighborsLine, findEdgeLine, sumAroundLine, removeEdgeLine, removeNodeLine}
-use Rattle.dispatch.specs.Step.{operandsOf, step}
+use Rattle.letters.specs.Letters.{operandsOf}
+use Rattle.dispatch.specs.Step.{step}
 use Rattle.obeying.specs.Line.{numbersBehind, lineAnswer}
 use Rattle.demands.specs.Starred.{CasesHold}
 

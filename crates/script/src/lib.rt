@@ -3,6 +3,7 @@ ghost use mathlib.Core.Path.{_≡_};
 ghost use lib.ListN.{length};
 ghost use Rattle.script.specs.Script.{run, packed};
 use index::EdgeIndex;
+use index::NodeIndex;
 use index::Refusal;
 use parts::limit_of;
 use parts::pack;
@@ -35,7 +36,7 @@ pub extern "C" fn net_run(script: &[u8], out: &mut [u8]) -> u64
     let mut heads = [EdgeIndex::END.0; NODE_CELLS * NODE_ROOM];
     let mut registers = [0u32; EDGE_ROOM];
     let mut links = [EdgeIndex::END.0; EDGE_CELLS * EDGE_ROOM];
-    let mut ends = [EdgeIndex::END.0; EDGE_CELLS * EDGE_ROOM];
+    let mut ends = [NodeIndex::END.0; EDGE_CELLS * EDGE_ROOM];
     let mut n: u32 = 0;
     let mut m: u32 = 0;
     let mut items = [0u32; ITEM_ROOM];
