@@ -1,4 +1,4 @@
-//! Links the library's loops, which `rt staticlib loops` writes.
+//! Links the library's loops, which `make/staticlib.sh loops` writes.
 
 use std::env;
 use std::path::Path;
@@ -11,7 +11,7 @@ fn main() {
     println!("cargo::rerun-if-changed={}", file.display());
     if !file.exists() {
         println!(
-            "cargo::error={} is missing: run `rt staticlib loops`",
+            "cargo::error={} is missing: run `make/staticlib.sh loops`",
             file.display()
         );
     }

@@ -1,6 +1,6 @@
 #!/usr/bin/env bash
-# Makes target/libwaterways.so, for Python and its like, from the static libraries that `rt staticlib` has
-# written. WATERWAYS_LIB names another directory of these, WATERWAYS_SO another file.
+# Makes target/libwaterways.so, for Python and its like, from the static libraries that make/staticlib.sh
+# has written. WATERWAYS_LIB names another directory of these, WATERWAYS_SO another file.
 set -euo pipefail
 cd "$(dirname "${BASH_SOURCE[0]}")/.."
 lib=${WATERWAYS_LIB:-target/staticlib}
@@ -8,9 +8,5 @@ libraries=("$lib"/lib{exportrows,exportlists,exportremovals}.a)
 for library in "${libraries[@]}"; do
     [ -f "$library" ] || { echo "python/build.sh: no $library (make staticlib writes it)" >&2; exit 1; }
 done
-if [ -z "${WATERWAYS_LIB:-}" ] && [[ $(gcc -dumpmachine) != x86_64-* ]]; then
-    echo "python/build.sh: the libraries are for x86-64, and gcc is for $(gcc -dumpmachine)" >&2
-    exit 1
-fi
 gcc -shared -o "${WATERWAYS_SO:-target/libwaterways.so}" \
     -Wl,--whole-archive "${libraries[@]}" -Wl,--no-whole-archive

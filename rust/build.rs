@@ -1,4 +1,4 @@
-//! Links the static libraries that `rt staticlib` writes: those of ../target/staticlib, or of the
+//! Links the static libraries that make/staticlib.sh writes: those of ../target/staticlib, or of the
 //! directory that `WATERWAYS_LIB` names.
 
 use std::env;
@@ -17,7 +17,7 @@ fn main() {
         println!("cargo::rerun-if-changed={}", file.display());
         if !file.exists() {
             println!(
-                "cargo::error={} is missing: run `rt staticlib {name}`",
+                "cargo::error={} is missing: run `make/staticlib.sh {name}`",
                 file.display()
             );
         }

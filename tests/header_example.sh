@@ -1,14 +1,10 @@
 #!/usr/bin/env bash
-# The header's example, include/example.c: compiled by gcc against the static libraries that `rt staticlib`
+# The header's example, include/example.c: compiled by gcc against the static libraries that make/staticlib.sh
 # has written (or those of the directory WATERWAYS_LIB), run, and held to include/example.out. The header is
 # read by itself, too, as C and where there is g++ as C++.
 set -euo pipefail
 cd "$(dirname "${BASH_SOURCE[0]}")/.."
 lib=${WATERWAYS_LIB:-target/staticlib}
-if [ -z "${WATERWAYS_LIB:-}" ] && [[ $(gcc -dumpmachine) != x86_64-* ]]; then
-    echo "header example: FAILED, the libraries are for x86-64, and gcc is for $(gcc -dumpmachine)"
-    exit 1
-fi
 work=$(mktemp -d)
 trap 'rm -rf "$work"' EXIT
 

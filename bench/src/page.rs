@@ -90,6 +90,8 @@ fn cell(number: Option<f64>) -> String {
 
 fn page(sides: &[(&str, Make)], lines: &[Line]) -> String {
     let mut page = HEAD.to_string();
+    // The machine that this runs on: the libraries are compiled for it, as graph.rs is.
+    let _ = writeln!(page, "Measured on {}.\n", std::env::consts::ARCH);
     let others = &sides[1..];
     row(&mut page, title(others));
     row(

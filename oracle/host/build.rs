@@ -1,4 +1,4 @@
-//! With the feature `built`, links the library that `rt staticlib script` writes.
+//! With the feature `built`, links the library that `make/staticlib.sh script` writes.
 
 use std::env;
 use std::path::Path;
@@ -18,7 +18,7 @@ fn main() {
     println!("cargo::rustc-link-lib=static=script");
     if !library.exists() {
         println!(
-            "cargo::error=there is no {}: `rt staticlib script` writes it",
+            "cargo::error=there is no {}: `make/staticlib.sh script` writes it",
             library.display()
         );
     }

@@ -18,7 +18,7 @@ use Rattle.script.specs.Script.{mostBytes, run, packed}
 use Rattle.script.proofs.Limits.{run-most, run-number}
 use Rattle.script.proofs.Turns.{front-is}
 use Rattle.telling.specs.Telling.{endingOf, toldRun}
-use Rattle.telling.specs.Parts.{toldBytes, Tells}
+use Rattle.telling.specs.Parts.{toldBytes, PrintsRun}
 
 -- nothing; `! 1` and a newline; `! 7` and a newline
 pub ending-0 : endingOf 0 ≡ []
@@ -94,7 +94,7 @@ module _ (script before : List ℕ) {between : List ℕ} {told : ℕ} (room : to
       rw (← same-run) (writes-on (omega (arith, run-most script (length before), run-ending script (length before), room)) lines ending)
 
   pub told-so : {after : List ℕ} {r : ℕ} → length after ≡ length before
-      → Writes between after (told % 4294967296) (endingOf (told / 4294967296)) r → Tells script before after r
+      → Writes between after (told % 4294967296) (endingOf (told / 4294967296)) r → PrintsRun script before after r
   told-so {after} {r} long w =
       let within : r ≤ length after = omega (arith, w .ends-at, ending-room, long) in
       record { writes = told-whole w; held = (within, sym (length-take-le _ _ within)) }

@@ -12,6 +12,6 @@ abbrev pub toldBytes : ℕ
 toldBytes = mostBytes + 4
 
 -- what is printed of a script stands at the front of the output, r bytes; `&out[..r]` asks the second
-pub record Tells (script before after : List ℕ) (r : ℕ) : Type 0 where
+pub record PrintsRun (script before after : List ℕ) (r : ℕ) : Type 0 where
   pub writes : Writes before after 0 (toldRun script) r
   pub held : (r ≤ length after) × (r ≡ length (take r after))

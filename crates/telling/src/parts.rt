@@ -3,7 +3,7 @@ ghost use Prim.Native.Nat.{_+_, _≤_};
 ghost use lib.ListN.{length};
 ghost use Rattle.printing.specs.Parts.{Writes};
 ghost use Rattle.telling.specs.Telling.{endingOf};
-ghost use Rattle.telling.specs.Parts.{toldBytes, Tells};
+ghost use Rattle.telling.specs.Parts.{toldBytes, PrintsRun};
 use printing::parts::write_byte;
 use printing::parts::write_field;
 use script::MOST_BYTES;
@@ -28,7 +28,7 @@ pub fn write_ending(out: &mut [u8], at: usize, number: u32) -> usize
 // Runs a script, and writes all that is printed of it to the front of the output; how many bytes that is.
 pub fn tell_run(script: &[u8], out: &mut [u8]) -> usize
     requires { ⌜ toldBytes ≤ length (now out) ⌝ }
-    ensures { λ r. ⌜ Tells (now (script .entry)) (now (out .entry)) (now (out .exit)) r ⌝ }
+    ensures { λ r. ⌜ PrintsRun (now (script .entry)) (now (out .entry)) (now (out .exit)) r ⌝ }
 {
     let told = net_run(script, out);
     let number = (told / 4294967296) as u32;
