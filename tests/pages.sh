@@ -5,7 +5,7 @@
 set -euo pipefail
 cd "$(dirname "${BASH_SOURCE[0]}")/.."
 export LC_ALL=C.UTF-8
-pages=(README.md NOTICE oracle/README.md docs/{ANSWERS,COMMANDS,CRATES,DECISIONS,DIFFERENCES,LANGUAGES,PROOFS,TRUST}.md)
+pages=(README.md NOTICE oracle/README.md docs/{ANSWERS,COMMANDS,CRATES,DECISIONS,DIFFERENCES,LANGUAGES,PROOFS,TRUST}.md docs/landings/*.md)
 failed=0
 fail() { echo "pages: $*"; failed=1; }
 
