@@ -25,11 +25,11 @@ refusalNo NotImage = 8
 refusalNo Version = 9
 -- a script line that is no command
 refusalNo NotCommand = 10
--- the directory's entry of that register number names a row already; no call gives this or those below yet
+-- the directory's entry of that register number names a row already
 refusalNo Taken = 11
 -- a register number that is not below the directory's length
 refusalNo Beyond = 12
--- a node to be dropped that still has edges
+-- a node to be dropped that still has edges; no call gives this or those below yet
 refusalNo NotBare = 13
 -- lists that no ranking of the edges gives
 refusalNo NoRanking = 14

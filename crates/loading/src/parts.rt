@@ -38,7 +38,7 @@ pub fn is_sound(
 }
 
 // All rows lent become vacant.
-fn empty(
+pub fn empty(
     weights: &mut [i32],
     heads: &mut [u32],
     registers: &mut [u32],

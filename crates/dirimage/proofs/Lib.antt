@@ -1,0 +1,5 @@
+pub mod Filing
+pub mod Turns
+pub mod Served
+pub mod Load
+pub mod RoundTrip

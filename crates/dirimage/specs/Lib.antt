@@ -1,0 +1,4 @@
+pub mod Loading
+pub mod Calls
+pub mod Parts
+pub mod Load
