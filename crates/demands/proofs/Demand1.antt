@@ -58,7 +58,7 @@ use Rattle.script.proofs.Sayings.{run-told}
 use Rattle.demands.specs.Demand1.{ServedOr, served, refused-by, Refuses, Tells, stepRefusal, loadRefusal, linesThatFit, firstLines, runRefusal, SixExactly, Demand1}
 
 -- a number that is found in a list stands in it
-in-list : (x : ℕ) (xs : List ℕ) → among x xs ≡ true → In x xs
+pub in-list : (x : ℕ) (xs : List ℕ) → among x xs ≡ true → In x xs
 in-list x [] h = absurd (let z : _≡_ {A = ℕ} 0 1 = cc in omega arith)
 in-list x (y ∷ ys) h = go (eqb x y) refl (λ k. in-list x ys k) h
   where
@@ -67,19 +67,19 @@ in-list x (y ∷ ys) h = go (eqb x y) refl (λ k. in-list x ys k) h
     go false e later k = inr (later k)
 
 module _ {X : Type 0} {number : X → ℕ} {numbers : List ℕ} {refusal : ℕ → X} where
-  by-number : (why : ℕ) → among why numbers ≡ true → ServedOr number numbers refusal (refusal why)
+  pub by-number : (why : ℕ) → among why numbers ≡ true → ServedOr number numbers refusal (refusal why)
   by-number why h = refused-by why (in-list why numbers h) refl
 
   -- a test fails or passes
-  passing : (b : Bool) {x y : X} → ServedOr number numbers refusal x → (b ≡ true → ServedOr number numbers refusal y) → ServedOr number numbers refusal (unless b x y)
+  pub passing : (b : Bool) {x y : X} → ServedOr number numbers refusal x → (b ≡ true → ServedOr number numbers refusal y) → ServedOr number numbers refusal (unless b x y)
   passing true p q = q refl
   passing false p q = p
 
-  passes-or : (b : Bool) {x y : X} → ServedOr number numbers refusal x → ServedOr number numbers refusal y → ServedOr number numbers refusal (unless b x y)
+  pub passes-or : (b : Bool) {x y : X} → ServedOr number numbers refusal x → ServedOr number numbers refusal y → ServedOr number numbers refusal (unless b x y)
   passes-or b p q = passing b p (λ t. q)
 
   -- a test with its refusal
-  if-not : (b : Bool) (why : ℕ) {rest : X} → among why numbers ≡ true → ServedOr number numbers refusal rest
+  pub if-not : (b : Bool) (why : ℕ) {rest : X} → among why numbers ≡ true → ServedOr number numbers refusal rest
       → ServedOr number numbers refusal (unless b (refusal why) rest)
   if-not b why h p = passes-or b (by-number why h) p
 
@@ -126,6 +126,13 @@ locating : {g : Net} {numbers : List ℕ} (place : Located) (found : Spot → Sp
     → ((s t : Spot) (rows : ℕ) → Refuses numbers (0, 0, 0) g (found s t rows)) → Refuses numbers (0, 0, 0) g (onPlace place found (out (refused Broken (0, 0, 0)) g))
 locating (Located·.At s t rows) found h p = p s t rows
 locating Located·.Lost found h p = by-number 6 h
+
+-- an edge that is in use is taken out, or 6
+pub taking-out : {numbers : List ℕ} (g : Net) (e : ℕ) → among 6 numbers ≡ true → Refuses numbers (0, 0, 0) g (takenOut g e)
+unfolding takenOut gone lastMoved
+taking-out g e h =
+    locating (placeOf g e) _ h (λ s t rows.
+    passes-or (eqb e (g .m - 1)) (locating (placeOf (bypassed g e s t) (g .m - 1)) _ h (λ u v more. served refl)) (served refl))
 
 -- a load that is refused 6 has written its rows, and empties all
 load-broken : (g : Net) (bytes : List ℕ) → fits g ≡ true → leb (nodesIn bytes) (length (g .weights)) && leb (edgesIn bytes) (length (g .registers)) ≡ true
@@ -182,7 +189,7 @@ each-listed (o ∷ others) h = (in-list (o .reply .number) (0 ∷ 2 ∷ 3 ∷ 4 
 
 pub demand-1 : Demand1
 unfolding nodeWeight edgeWeight edgeEndpoints firstEdge nextEdge setNodeWeight setEdgeWeight addNode allEdgeWeights clearEdges clear neighbors
-    edgeWeights edgesBetween edgesMut edges findEdge containsEdge updateEdge begin step sumAround checked removeEdge takenOut gone lastMoved
+    edgeWeights edgesBetween edgesMut edges findEdge containsEdge updateEdge begin step sumAround checked removeEdge
     removeNode closedIfRoom imageWrite imageRead readOne settled
 demand-1 =
     record {
@@ -236,14 +243,7 @@ demand-1 =
       check = λ g. checked-told (fits g) (way g 0) (way g 1);
       check-right = right;
       check-only = only;
-      remove-edge =
-          λ g e.
-          if-not (fits g) 1 refl
-          (if-not (ltb e (g .m)) 4 refl
-          (locating (placeOf g e) _ refl (λ s t rows.
-          passes-or (eqb e (g .m - 1))
-          (locating (placeOf (bypassed g e s t) (g .m - 1)) _ refl (λ u v more. served refl))
-          (served refl))));
+      remove-edge = λ g e. if-not (fits g) 1 refl (if-not (ltb e (g .m)) 4 refl (taking-out g e refl));
       remove-node =
           λ g a items.
           if-not (fits g) 1 refl

@@ -4,7 +4,15 @@ pub mod SettledParts
 pub mod SettledScript
 pub mod SettledExports
 pub mod SettledLoops
+pub mod SettledDirectory
 pub mod Demand1
 pub mod Demand2
 pub mod Demand3
 pub mod Starred
+pub mod Judged
+pub mod DirectoryNumbers
+pub mod DirectorySame
+pub mod DirectoryFollows
+pub mod ByNumber
+pub mod Wish1
+pub mod Wish1Cases

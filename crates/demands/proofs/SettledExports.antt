@@ -5,6 +5,7 @@ use Rattle.cells.proofs as cells
 use Rattle.exportrows.proofs as exportrows
 use Rattle.exportlists.proofs as exportlists
 use Rattle.exportremovals.proofs as exportremovals
+use Rattle.exportdirectory.proofs as exportdirectory
 use Rattle.demands.specs.Settles.{Settles, SettlesAll}
 use Rattle.demands.proofs.Alike.{alike, answers-alike, allColumns, nodeColumns, edgeColumns, noColumns}
 
@@ -151,3 +152,64 @@ net-image-write = (λ κs given. tt, λ κs given x y p q. ap (λ o. (o .answer 
 
 pub net-image-read : SettlesAll exportremovals.net_image_read.ended exportremovals.net_image_read.Reads.Pre exportremovals.net_image_read.Reads.Post
 net-image-read = (λ κs given. tt, λ κs given x y p q. ap (λ o. (o .answer .number, allColumns (o .after) _)) (alike p q))
+
+pub net-dir-check : SettlesAll exportdirectory.net_dir_check.ended exportdirectory.net_dir_check.Reads.Pre exportdirectory.net_dir_check.Reads.Post
+net-dir-check = (λ κs given. tt, λ κs given x y p q. ap (λ o. (o .number, noColumns (_, (o .values .0, (o .values .1, (o .values .2, _)))))) (alike p q))
+
+pub net-dir-add-edge : SettlesAll exportdirectory.net_dir_add_edge.ended exportdirectory.net_dir_add_edge.Reads.Pre exportdirectory.net_dir_add_edge.Reads.Post
+net-dir-add-edge = (
+  λ κs given. tt,
+  λ κs given x y p q. ap (λ o. (o .answer .number, edgeColumns (o .after .net) (o .after .directory, (_, (_, (_, (o .answer .values, _))))))) (alike p q),
+)
+
+pub net-dir-update-edge : SettlesAll exportdirectory.net_dir_update_edge.ended exportdirectory.net_dir_update_edge.Reads.Pre exportdirectory.net_dir_update_edge.Reads.Post
+net-dir-update-edge = (
+  λ κs given. tt,
+  λ κs given x y p q. ap (λ o. (o .answer .number, edgeColumns (o .after .net) (o .after .directory, (_, (_, (_, (o .answer .values, _))))))) (alike p q),
+)
+
+pub net-dir-set-edge-weight : SettlesAll exportdirectory.net_dir_set_edge_weight.ended exportdirectory.net_dir_set_edge_weight.Reads.Pre exportdirectory.net_dir_set_edge_weight.Reads.Post
+net-dir-set-edge-weight = (
+  λ κs given. tt,
+  λ κs given x y p q. ap (λ o. (o .answer .number, (_, (_, (o .after .net .registers, (_, (_, (_, (_, (o .after .directory, _)))))))))) (alike p q),
+)
+
+pub net-dir-clear-edges : SettlesAll exportdirectory.net_dir_clear_edges.ended exportdirectory.net_dir_clear_edges.Reads.Pre exportdirectory.net_dir_clear_edges.Reads.Post
+net-dir-clear-edges = (λ κs given. tt, λ κs given x y p q. ap (λ o. (o .answer .number, edgeColumns (o .after .net) (o .after .directory, _))) (alike p q))
+
+pub net-dir-clear : SettlesAll exportdirectory.net_dir_clear.ended exportdirectory.net_dir_clear.Reads.Pre exportdirectory.net_dir_clear.Reads.Post
+net-dir-clear = (λ κs given. tt, λ κs given x y p q. ap (λ o. (o .answer .number, allColumns (o .after .net) (o .after .directory, _))) (alike p q))
+
+pub net-dir-remove-edge : SettlesAll exportdirectory.net_dir_remove_edge.ended exportdirectory.net_dir_remove_edge.Reads.Pre exportdirectory.net_dir_remove_edge.Reads.Post
+net-dir-remove-edge = (
+  λ κs given. tt,
+  λ κs given x y p q.
+      ap (λ o. (o .answer .number, edgeColumns (o .after .net) (o .after .directory, (_, (o .answer .values .0, (o .answer .values .1, (o .answer .values .2, _))))))) (alike p q),
+)
+
+pub net-dir-find-number : SettlesAll exportdirectory.net_dir_find_number.ended exportdirectory.net_dir_find_number.Reads.Pre exportdirectory.net_dir_find_number.Reads.Post
+net-dir-find-number = (λ κs given. tt, λ κs given x y p q. ap (λ o. (o .number, noColumns (_, (_, (o .values, _))))) (alike p q))
+
+pub net-dir-remove-number : SettlesAll exportdirectory.net_dir_remove_number.ended exportdirectory.net_dir_remove_number.Reads.Pre exportdirectory.net_dir_remove_number.Reads.Post
+net-dir-remove-number = (
+  λ κs given. tt,
+  λ κs given x y p q.
+      ap (λ o. (o .answer .number, edgeColumns (o .after .net) (o .after .directory, (_, (o .answer .values .0, (o .answer .values .1, (o .answer .values .2, _))))))) (alike p q),
+)
+
+pub net-dir-remove-node : SettlesAll exportdirectory.net_dir_remove_node.ended exportdirectory.net_dir_remove_node.Reads.Pre exportdirectory.net_dir_remove_node.Reads.Post
+net-dir-remove-node = (
+  λ κs given. tt,
+  λ κs given x y p q.
+      ap (λ o. (
+        o .answer .number,
+        allColumns (o .after .0 .net)
+            (o .after .0 .directory, (_, (o .after .1, (o .answer .values .0, (o .answer .values .1, (o .answer .values .2, _)))))),
+      )) (alike p q),
+)
+
+pub net-dir-image-write : SettlesAll exportdirectory.net_dir_image_write.ended exportdirectory.net_dir_image_write.Reads.Pre exportdirectory.net_dir_image_write.Reads.Post
+net-dir-image-write = (λ κs given. tt, λ κs given x y p q. ap (λ o. (o .answer .number, noColumns (_, (o .after, (o .answer .values, _))))) (alike p q))
+
+pub net-dir-image-read : SettlesAll exportdirectory.net_dir_image_read.ended exportdirectory.net_dir_image_read.Reads.Pre exportdirectory.net_dir_image_read.Reads.Post
+net-dir-image-read = (λ κs given. tt, λ κs given x y p q. ap (λ o. (o .answer .number, allColumns (o .after .net) (o .after .directory, _))) (alike p q))

@@ -2,6 +2,7 @@
 use Prim.{tt}
 use mathlib.Core.Path.{ap}
 use Rattle.loops.proofs as loops
+use Rattle.dirloops.proofs as dirloops
 use Rattle.demands.specs.Settles.{Settles, SettlesAll}
 use Rattle.demands.proofs.Alike.{alike, answers-alike, nodeColumns, edgeColumns, noColumns}
 
@@ -34,3 +35,13 @@ loop-neighbors = (λ κs given. tt, λ κs given x y p q. ap (λ o. (o .sum, noC
 
 pub loop-remove-edges : SettlesAll loops.loop_remove_edges.ended loops.loop_remove_edges.Reads.Pre loops.loop_remove_edges.Reads.Post
 loop-remove-edges = (λ κs given. tt, λ κs given x y p q. ap (λ o. (o .sum, edgeColumns (o .after) _)) (alike p q))
+
+-- with a directory
+pub loop-dir-add-edges : SettlesAll dirloops.loop_dir_add_edges.ended dirloops.loop_dir_add_edges.Reads.Pre dirloops.loop_dir_add_edges.Reads.Post
+loop-dir-add-edges = (λ κs given. tt, λ κs given x y p q. ap (λ o. (o .sum, edgeColumns (o .after .net) (o .after .directory, _))) (alike p q))
+
+pub loop-find-numbers : SettlesAll dirloops.loop_find_numbers.ended dirloops.loop_find_numbers.Reads.Pre dirloops.loop_find_numbers.Reads.Post
+loop-find-numbers = (λ κs given. tt, λ κs given x y p q. answers-alike p q)
+
+pub loop-remove-numbers : SettlesAll dirloops.loop_remove_numbers.ended dirloops.loop_remove_numbers.Reads.Pre dirloops.loop_remove_numbers.Reads.Post
+loop-remove-numbers = (λ κs given. tt, λ κs given x y p q. ap (λ o. (o .sum, edgeColumns (o .after .net) (o .after .directory, _))) (alike p q))

@@ -204,5 +204,8 @@ imagerows-load κs given x y p q = ap (λ g. (_, (g .weights, (g .heads, (g .reg
 pub loading-is-sound : Settles loading.parts.is_sound.ended loading.parts.is_sound.Reads.Post
 loading-is-sound κs given x y p q = answers-alike p q
 
+pub loading-empty : Settles loading.parts.empty.ended loading.parts.empty.Reads.Post
+loading-empty κs given x y p q = ap (λ g. (_, (g .weights, (g .heads, (g .registers, (g .links, (g .ends, _))))))) (alike p q)
+
 pub loading-read-one : Settles loading.parts.read_one.ended loading.parts.read_one.Reads.Post
 loading-read-one κs given x y p q = ap (λ o. (o .0, allColumns (o .1) _)) (told-alike toldChange change-told-once p q)

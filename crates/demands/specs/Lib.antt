@@ -3,3 +3,5 @@ pub mod Demand1
 pub mod Demand2
 pub mod Demand3
 pub mod Starred
+pub mod Wish1
+pub mod Wish1Cases
