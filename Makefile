@@ -32,7 +32,7 @@ replay:
 
 # Static libraries for C, Rust and Python; include/waterways.h has their calls.
 staticlib:
-	@make/staticlib.sh exportrows exportlists exportremovals
+	@make/staticlib.sh exportrows exportlists exportremovals exportdirectory
 
 # The header's example.
 example: staticlib
@@ -43,7 +43,7 @@ rust: staticlib
 
 # How fast it is beside graph.rs, and petgraph where it is installed: prints, and writes docs/BENCH.md.
 bench: staticlib target/staticlib/libscript.a
-	@make/staticlib.sh loops
+	@make/staticlib.sh loops dirloops
 	bench/run.sh
 
 python: staticlib

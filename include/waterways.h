@@ -19,7 +19,14 @@
 
    Before these numbers stands what the call reads, in edge rows. D is the number of edges in the longest
    list, d that of the edges of the node. Lengths and counts are tested first, which reads no row: so 1 costs
-   the same everywhere.
+   the same everywhere. A directory's cells are no edge rows.
+
+   A network may have a directory beside it, so that a waterway is found by its register number: one more
+   table of uint32_t, of whatever length the caller likes, whose cell r has the row that bears number r, or
+   NET_END. The calls that begin with net_dir_ are lent it behind the counts, and keep it in step: no two
+   edges then bear one number, and the directory is part of soundness. The other calls know nothing of it.
+   Beside a directory, the call that takes it is to be used wherever there is one: after a plain
+   net_set_edge_weight, say, the entries are not those of the rows, which net_dir_check finds (6).
 
    include/example.c is a whole program, which tests/header_example.sh compiles and runs. */
 #ifndef WATERWAYS_H
@@ -39,15 +46,16 @@ enum net_answer {
     NET_FULL = 2,         /* no row for one more; image counts above the rows lent */
     NET_NO_NODE = 3,      /* the named node is not below n */
     NET_NO_EDGE = 4,      /* the named edge is not below m */
-    NET_NOTHING = 5,      /* nothing found; NET_END at a first or next edge; a walker at its end */
-    NET_BROKEN = 6,       /* broken links */
+    NET_NOTHING = 5,      /* nothing found; NET_END at a first or next edge; a walker at its end; a register
+                             number that no row bears */
+    NET_BROKEN = 6,       /* broken links; an entry of the directory that is not the row's */
     NET_SHORT = 7,        /* the output holds fewer items than the answer needs */
     NET_NOT_IMAGE = 8,    /* an image that is too short, has a wrong mark or a wrong length */
     NET_VERSION = 9,      /* an image of an unknown version */
     NET_NOT_COMMAND = 10, /* a script line that is no command */
-    /* No call gives these yet. */
     NET_TAKEN = 11,       /* the directory's entry of that register number names a row */
     NET_BEYOND = 12,      /* a register number that is not below the directory's length */
+    /* No call gives these yet. */
     NET_NOT_BARE = 13,    /* a node to be dropped that still has edges */
     NET_NO_RANKING = 14,  /* lists that no ranking of the edges gives */
     NET_OUTSIDE = 15,     /* outside the planning profile */
@@ -288,6 +296,108 @@ uint32_t net_image_read(
     int32_t *weights, size_t weights_len, uint32_t *heads, size_t heads_len,
     uint32_t *registers, size_t registers_len, uint32_t *links, size_t links_len,
     uint32_t *ends, size_t ends_len, uint32_t *n, uint32_t *m, const uint8_t *bytes, size_t bytes_len);
+
+/* With a directory (libexportdirectory.a) */
+
+/* As net_check; then the directory: the entry of every edge's number names that edge, and every other cell is
+   NET_END. A fault of the directory is told last, as incoming and node n + 1. Reads what net_check reads, and
+   then the register numbers of all rows, twice. Refused 1, 6. */
+uint32_t net_dir_check(
+    const int32_t *weights, size_t weights_len, const uint32_t *heads, size_t heads_len,
+    const uint32_t *registers, size_t registers_len, const uint32_t *links, size_t links_len,
+    const uint32_t *ends, size_t ends_len, uint32_t n, uint32_t m, const uint32_t *directory,
+    size_t directory_len, uint32_t *rows, uint32_t *direction, uint32_t *node);
+
+/* As net_add_edge; the entry of w then names the new edge. 11 where it names any row already, below m or not.
+   Reads no edge row. Refused 1, 2, 3, 12, 11. */
+uint32_t net_dir_add_edge(
+    const int32_t *weights, size_t weights_len, uint32_t *heads, size_t heads_len,
+    uint32_t *registers, size_t registers_len, uint32_t *links, size_t links_len,
+    uint32_t *ends, size_t ends_len, uint32_t n, uint32_t *m, uint32_t *directory, size_t directory_len,
+    uint32_t a, uint32_t b, uint32_t w, uint32_t *edge);
+
+/* As net_update_edge; as net_dir_set_edge_weight where an edge is found, even in a full table, else as
+   net_dir_add_edge. Reads what net_find_edge reads, and the row that is found. Refused 1, 6, then 12, 11
+   where an edge is found, else 2, 3, 12, 11. */
+uint32_t net_dir_update_edge(
+    const int32_t *weights, size_t weights_len, uint32_t *heads, size_t heads_len,
+    uint32_t *registers, size_t registers_len, uint32_t *links, size_t links_len,
+    uint32_t *ends, size_t ends_len, uint32_t n, uint32_t *m, uint32_t *directory, size_t directory_len,
+    uint32_t a, uint32_t b, uint32_t w, uint32_t *edge);
+
+/* As net_set_edge_weight; the entry of the old number becomes NET_END, then that of w names e. 6 where the
+   entry of the old number does not name e, 11 where that of w names another row. Reads row e. Refused 1, 4,
+   6, 12, 11. */
+uint32_t net_dir_set_edge_weight(
+    const int32_t *weights, size_t weights_len, const uint32_t *heads, size_t heads_len,
+    uint32_t *registers, size_t registers_len, const uint32_t *links, size_t links_len,
+    const uint32_t *ends, size_t ends_len, uint32_t n, uint32_t m, uint32_t *directory, size_t directory_len,
+    uint32_t e, uint32_t w);
+
+/* As net_remove_edge; the entry of the edge's number becomes NET_END, and that of the row that moves names
+   its new place. 6 also where the entry of one of these two does not name its row. Reads what net_remove_edge
+   reads. Refused 1, 4, 6. */
+uint32_t net_dir_remove_edge(
+    const int32_t *weights, size_t weights_len, uint32_t *heads, size_t heads_len,
+    uint32_t *registers, size_t registers_len, uint32_t *links, size_t links_len,
+    uint32_t *ends, size_t ends_len, uint32_t n, uint32_t *m, uint32_t *directory, size_t directory_len,
+    uint32_t e, uint32_t *weight, uint32_t *moved, uint32_t *rows);
+
+/* As net_remove_node; the directory follows every row that goes or moves. 6 exactly where net_dir_check
+   answers 6. Checks network and directory first, and reads for it what net_dir_check reads; the rest is
+   net_remove_node's. Refused 1, 3, 6, 7. */
+uint32_t net_dir_remove_node(
+    int32_t *weights, size_t weights_len, uint32_t *heads, size_t heads_len,
+    uint32_t *registers, size_t registers_len, uint32_t *links, size_t links_len,
+    uint32_t *ends, size_t ends_len, uint32_t *n, uint32_t *m, uint32_t *directory, size_t directory_len,
+    uint32_t a, uint32_t *items, size_t items_len, int32_t *weight, uint64_t *rows, uint32_t *count);
+
+/* As net_clear_edges; every cell of the directory becomes NET_END. Reads no edge row. Refused 1. */
+uint32_t net_dir_clear_edges(
+    const int32_t *weights, size_t weights_len, uint32_t *heads, size_t heads_len,
+    uint32_t *registers, size_t registers_len, uint32_t *links, size_t links_len,
+    uint32_t *ends, size_t ends_len, uint32_t n, uint32_t *m, uint32_t *directory, size_t directory_len);
+
+/* As net_clear; every cell of the directory becomes NET_END. Reads no edge row. Refused 1. */
+uint32_t net_dir_clear(
+    int32_t *weights, size_t weights_len, uint32_t *heads, size_t heads_len,
+    uint32_t *registers, size_t registers_len, uint32_t *links, size_t links_len,
+    uint32_t *ends, size_t ends_len, uint32_t *n, uint32_t *m, uint32_t *directory, size_t directory_len);
+
+/* As net_image_write: the directory is no part of the image, but 6 is also for a directory that is not right.
+   Checks network and directory first, and reads for it what net_dir_check reads, then each row once. Refused
+   1, 6, 7. */
+uint32_t net_dir_image_write(
+    const int32_t *weights, size_t weights_len, const uint32_t *heads, size_t heads_len,
+    const uint32_t *registers, size_t registers_len, const uint32_t *links, size_t links_len,
+    const uint32_t *ends, size_t ends_len, uint32_t n, uint32_t m, const uint32_t *directory,
+    size_t directory_len, uint8_t *bytes, size_t bytes_len, uint32_t *length);
+
+/* As net_image_read; the directory becomes that of the rows read, whatever it held. 12 where some row's
+   number is not below the directory's length, 11 where two rows bear one number; these two and 6 leave all
+   rows vacant, n = m = 0, and every cell of the directory NET_END. Reads what net_image_read reads, and then
+   the register numbers of all rows. Refused 1, 8 (short or mark), 9, 2, 8 (length), 6, 12, 11. */
+uint32_t net_dir_image_read(
+    int32_t *weights, size_t weights_len, uint32_t *heads, size_t heads_len,
+    uint32_t *registers, size_t registers_len, uint32_t *links, size_t links_len,
+    uint32_t *ends, size_t ends_len, uint32_t *n, uint32_t *m, uint32_t *directory, size_t directory_len,
+    const uint8_t *bytes, size_t bytes_len);
+
+/* The edge that bears register number r. Reads the row that the entry names. Refused 1, 12, 5 (the entry is
+   NET_END), 6 (it names a row that is not below m, or bears another number). */
+uint32_t net_dir_find_number(
+    const int32_t *weights, size_t weights_len, const uint32_t *heads, size_t heads_len,
+    const uint32_t *registers, size_t registers_len, const uint32_t *links, size_t links_len,
+    const uint32_t *ends, size_t ends_len, uint32_t n, uint32_t m, const uint32_t *directory,
+    size_t directory_len, uint32_t r, uint32_t *edge);
+
+/* Takes out the edge that bears register number r: net_dir_find_number, then net_dir_remove_edge. Reads what
+   both read. Refused 1, 12, 5, 6. */
+uint32_t net_dir_remove_number(
+    const int32_t *weights, size_t weights_len, uint32_t *heads, size_t heads_len,
+    uint32_t *registers, size_t registers_len, uint32_t *links, size_t links_len,
+    uint32_t *ends, size_t ends_len, uint32_t n, uint32_t *m, uint32_t *directory, size_t directory_len,
+    uint32_t r, uint32_t *weight, uint32_t *moved, uint32_t *rows);
 
 /* Scripts (libscript.a) */
 

@@ -4,7 +4,7 @@
 set -euo pipefail
 cd "$(dirname "${BASH_SOURCE[0]}")/.."
 lib=${WATERWAYS_LIB:-target/staticlib}
-libraries=("$lib"/lib{exportrows,exportlists,exportremovals}.a)
+libraries=("$lib"/lib{exportrows,exportlists,exportremovals,exportdirectory}.a)
 for library in "${libraries[@]}"; do
     [ -f "$library" ] || { echo "python/build.sh: no $library (make staticlib writes it)" >&2; exit 1; }
 done

@@ -4,7 +4,12 @@
 use std::env;
 use std::path::{Path, PathBuf};
 
-const LIBRARIES: [&str; 3] = ["exportrows", "exportlists", "exportremovals"];
+const LIBRARIES: [&str; 4] = [
+    "exportrows",
+    "exportlists",
+    "exportremovals",
+    "exportdirectory",
+];
 
 fn main() {
     println!("cargo::rerun-if-env-changed=WATERWAYS_LIB");

@@ -11,8 +11,8 @@ trap 'rm -rf "$work"' EXIT
 strict=(-Iinclude -Wall -Wextra -Wpedantic -Werror)
 echo '#include "waterways.h"' | gcc -x c "${strict[@]}" -fsyntax-only -
 ! command -v g++ >/dev/null || echo '#include "waterways.h"' | g++ -x c++ "${strict[@]}" -fsyntax-only -
-gcc -std=c11 -O1 "${strict[@]}" include/example.c "$lib"/lib{exportrows,exportlists,exportremovals}.a \
-    -o "$work/example"
+libraries=("$lib"/lib{exportrows,exportlists,exportremovals,exportdirectory}.a)
+gcc -std=c11 -O1 "${strict[@]}" include/example.c "${libraries[@]}" -o "$work/example"
 "$work/example" >"$work/out"
 if ! diff include/example.out "$work/out"; then
     echo "header example: FAILED ('<' is include/example.out, '>' what the example printed)"

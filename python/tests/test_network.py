@@ -5,6 +5,7 @@ import unittest
 import waterways
 from waterways import (
     END,
+    Beyond,
     Broken,
     EdgeDirection,
     Full,
@@ -16,15 +17,16 @@ from waterways import (
     Refused,
     Rows,
     Tables,
+    Taken,
     Version,
 )
 
 OUT, IN = EdgeDirection
 
 
-def network_a(nodes: int = 3, edges: int = 4) -> Network:
+def network_a(nodes: int = 3, edges: int = 4, directory: int | None = None) -> Network:
     """The order's network A."""
-    network = Network(nodes, edges)
+    network = Network(nodes, edges, directory)
     for total in 5, -3, 8:
         network.add_node(total)
     for source, target, register in (0, 1, 10), (1, 2, 11), (0, 2, 12), (1, 1, 13):
@@ -214,6 +216,97 @@ class Damaged(unittest.TestCase):
         for nodes, edges in (16_385, 0), (0, 65_537), (-1, 0):
             with self.assertRaises(Tables):
                 Network(nodes, edges)
+
+
+class Directory(unittest.TestCase):
+    """Network A with a directory of 20 cells; its edges bear 10 to 13."""
+
+    def setUp(self):
+        self.network = network_a(3, 5, 20)
+
+    def refused(self, why: type[Refused], call, *arguments):
+        """The call is refused, and all is as it was."""
+        before = self.network.tables(), self.network.directory()
+        with self.assertRaises(why):
+            call(*arguments)
+        self.assertEqual((self.network.tables(), self.network.directory()), before)
+
+    def entries(self) -> dict[int, int]:
+        """The cells that name a row."""
+        return {r: e for r, e in enumerate(self.network.directory()) if e != END}
+
+    def test_by_number(self):
+        network = self.network
+        self.assertEqual(self.entries(), {10: 0, 11: 1, 12: 2, 13: 3})
+        self.assertEqual(network.find_number(12), 2)
+        self.refused(Beyond, network.find_number, 20)
+        self.refused(Nothing, network.remove_number, 7)
+        self.assertEqual(network.remove_number(10), (10, 3, 2))
+        self.assertEqual(self.entries(), {11: 1, 12: 2, 13: 0})
+        self.assertEqual(network.check(), 6)
+
+    def test_numbers_are_given_once(self):
+        network = self.network
+        self.refused(NoNode, network.add_edge, 0, 9, 20)
+        self.refused(Beyond, network.add_edge, 0, 1, 20)
+        self.refused(Taken, network.add_edge, 0, 1, 10)
+        self.refused(Taken, network.update_edge, 2, 1, 10)
+        self.refused(NoEdge, network.set_edge_weight, 4, 10)
+        self.refused(Taken, network.set_edge_weight, 1, 10)
+        self.assertEqual(network.update_edge(2, 1, 11), 1)
+        self.assertEqual(network.update_edge(2, 1, 7), 1)
+        network.set_edge_weight(0, 0)
+        self.assertEqual(network.add_edge(0, 1, 11), 4)
+        self.assertEqual(self.entries(), {0: 0, 7: 1, 12: 2, 13: 3, 11: 4})
+        self.assertEqual(network.check(), 10)
+
+    def test_it_follows(self):
+        network = self.network
+        self.assertEqual(network.remove_node(0), (5, 2, [12, 10]))
+        self.assertEqual(self.entries(), {11: 1, 13: 0})
+        network.remove_edge(0)
+        self.assertEqual(self.entries(), {11: 0})
+        network.clear_edges()
+        self.assertEqual(self.entries(), {})
+        network.add_edge(0, 1, 19)
+        network.clear()
+        self.assertEqual(network, Network(3, 5, 20))
+
+    def test_a_wrong_one(self):
+        rows, cells = self.network.tables(), self.network.directory()
+        for r, e in (10, END), (10, 1), (7, 0), (7, 4):
+            wrong = Network.from_tables(rows, cells[:r] + [e] + cells[r + 1 :])
+            with self.assertRaises(Broken) as caught:
+                wrong.check()
+            self.assertEqual((caught.exception.direction, caught.exception.node), (IN, 4))
+            for call, arguments in (wrong.remove_node, (0,)), (wrong.image_write, ()):
+                with self.assertRaises(Broken):
+                    call(*arguments)
+        wrong = Network.from_tables(rows, cells[:13] + [0] + cells[14:])
+        for call, number in (wrong.remove_edge, 0), (wrong.remove_number, 10), (wrong.find_number, 13):
+            with self.assertRaises(Broken):
+                call(number)
+
+    def test_images(self):
+        image = self.network.image_write()
+        self.assertEqual(image, network_a().image_write())
+        self.assertEqual(Network.from_image(image, 3, 5, 20), self.network)
+        # Edge 0 bears 20, or 11 as edge 1 does: all is empty then.
+        for number, why in (20, Beyond), (11, Taken):
+            network = network_a(3, 5, 20)
+            with self.assertRaises(why):
+                network.image_read(image[:49] + bytes([number]) + image[50:])
+            self.assertEqual(network, Network(3, 5, 20))
+
+    def test_without_one(self):
+        network = network_a()
+        self.assertIsNone(network.directory())
+        network.set_edge_weight(0, 13)
+        for call in network.find_number, network.remove_number:
+            with self.assertRaises(Beyond):
+                call(13)
+        self.assertEqual(network.check(), 8)
+        self.assertNotEqual(network_a(3, 5), self.network)
 
 
 class Images(unittest.TestCase):

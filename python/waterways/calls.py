@@ -6,7 +6,7 @@ parameters, and behind the arrow the values that it answers:
     n  m        a count that is lent as it is            &n  &m      a count that the call changes
     a  w:i32    a number, 32 bits without a sign unless its type stands behind it
     [items]     a table to be filled, with its length    (bytes:u8)  a table to be read
-    walker      the three numbers of a walker
+    walker      the three numbers of a walker            directory   the directory, with its length
 
 Every call has the five tables of a network before these, each with its number of cells.
 """
@@ -50,6 +50,18 @@ remove_edge       n &m   e                              -> weight moved rows
 remove_node       &n &m  a [items]                      -> weight:i32 rows:u64 count
 image_write       n m    [bytes:u8]                     -> length
 image_read        &n &m  (bytes:u8)                     ->
+dir_check           n m    directory                    -> rows direction node
+dir_add_edge        n &m   directory a b w              -> edge
+dir_update_edge     n &m   directory a b w              -> edge
+dir_set_edge_weight n m    directory e w                ->
+dir_remove_edge     n &m   directory e                  -> weight moved rows
+dir_remove_node     &n &m  directory a [items]          -> weight:i32 rows:u64 count
+dir_clear_edges     n &m   directory                    ->
+dir_clear           &n &m  directory                    ->
+dir_image_write     n m    directory [bytes:u8]         -> length
+dir_image_read      &n &m  directory (bytes:u8)         ->
+dir_find_number     n m    directory r                  -> edge
+dir_remove_number   n &m   directory r                  -> weight moved rows
 """
 
 TYPES = {
@@ -70,7 +82,7 @@ class Parameter(NamedTuple):
     """A parameter of a call: its name, what it is, and the type of its cell or cells."""
 
     name: str
-    kind: str  # 'count', 'changed count', 'number', 'filled', 'read', 'walker' or 'answer'
+    kind: str  # 'count', 'changed count', 'number', 'filled', 'read', 'walker', 'directory' or 'answer'
     type: str
 
 
@@ -81,8 +93,8 @@ def _parameter(word: str) -> Parameter:
         return Parameter(name, "count", kind)
     if word in ("&n", "&m"):
         return Parameter(name, "changed count", kind)
-    if word == "walker":
-        return Parameter(name, "walker", kind)
+    if word in ("walker", "directory"):
+        return Parameter(name, word, kind)
     return Parameter(name, {"[": "filled", "(": "read"}.get(word[0], "number"), kind)
 
 
@@ -109,7 +121,7 @@ def argument_types(name: str) -> list:
         match parameter.kind:
             case "count" | "number":
                 types.append(cell)
-            case "filled" | "read":
+            case "filled" | "read" | "directory":
                 types += [ctypes.POINTER(cell), ctypes.c_size_t]
             case _:
                 types.append(ctypes.POINTER(cell))

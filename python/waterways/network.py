@@ -89,10 +89,15 @@ class Network:
     number. Both are known by the number of their row, from 0, and a removal moves the last row into the
     place of the one that goes. What a call cannot serve it refuses by an exception, `Refused`, and then
     nothing has changed. A number that no cell can hold is a ValueError.
+
+    A network may have a directory, which every call then keeps in step: no two edges bear one register
+    number, each number has a cell, and edges are found and taken out by it. Then a call that gives an edge a
+    number is also refused Beyond where there is no cell for it, and Taken where its entry names another row;
+    and one whose edge the directory does not name is refused Broken.
     """
 
-    def __init__(self, nodes: int = 256, edges: int = 1_024):
-        """An empty network with room for so many nodes and edges."""
+    def __init__(self, nodes: int = 256, edges: int = 1_024, directory: int | None = None):
+        """An empty network with room for so many nodes and edges, and a directory of so many cells if any."""
         if not (0 <= nodes <= NODE_ROWS and 0 <= edges <= EDGE_ROWS):
             raise Tables
         self._tables = {}
@@ -103,11 +108,20 @@ class Network:
                 if width == 2:
                     ctypes.memset(table, 0xFF, ctypes.sizeof(table))
         self._counts = {"n": ctypes.c_uint32(0), "m": ctypes.c_uint32(0)}
+        self._directory = None
+        if directory is not None:
+            self._directory = calls.room("u32", directory)
+            ctypes.memset(self._directory, 0xFF, ctypes.sizeof(self._directory))
 
     @classmethod
-    def from_tables(cls, rows: Rows) -> Network:
-        """A network on tables that may hold anything. What a call cannot serve on them it refuses."""
+    def from_tables(cls, rows: Rows, directory: list[int] | None = None) -> Network:
+        """A network on tables, and a directory if any, that may hold anything.
+
+        What a call cannot serve on them it refuses.
+        """
         network = cls(0, 0)
+        if directory is not None:
+            network._directory = calls.cells("u32", directory)
         for name, (kind, _) in calls.TABLES.items():
             network._tables[name] = calls.cells(kind, getattr(rows, name))
         for name, count in network._counts.items():
@@ -115,9 +129,11 @@ class Network:
         return network
 
     @classmethod
-    def from_image(cls, image: bytes, nodes: int = NODE_ROWS, edges: int = EDGE_ROWS) -> Network:
-        """The network that an image has, in tables of so many rows."""
-        network = cls(nodes, edges)
+    def from_image(
+        cls, image: bytes, nodes: int = NODE_ROWS, edges: int = EDGE_ROWS, directory: int | None = None
+    ) -> Network:
+        """The network that an image has, in tables of so many rows, and with a directory of so many cells."""
+        network = cls(nodes, edges, directory)
         network.image_read(image)
         return network
 
@@ -126,8 +142,14 @@ class Network:
         tables = {name: list(table) for name, table in self._tables.items()}
         return Rows(**tables, **{name: count.value for name, count in self._counts.items()})
 
+    def directory(self) -> list[int] | None:
+        """The cells of the directory: for each register number the row that bears it, or END."""
+        return None if self._directory is None else list(self._directory)
+
     def __eq__(self, other: object) -> bool:
-        return isinstance(other, Network) and astuple(self.tables()) == astuple(other.tables())
+        if not isinstance(other, Network) or self.directory() != other.directory():
+            return False
+        return astuple(self.tables()) == astuple(other.tables())
 
     def __repr__(self) -> str:
         return f"<Network of {self.node_count()} nodes and {self.edge_count()} edges>"
@@ -172,6 +194,13 @@ class Network:
     def set_edge_weight(self, e: int, weight: int) -> None:
         """Sets the weight of an edge. Refused NoEdge."""
         self._ask("set_edge_weight", e, weight)
+
+    def find_number(self, r: int) -> int:
+        """The edge that bears register number `r`, by the directory. Refused Beyond, Nothing, Broken.
+
+        A network without a directory is taken as one with no cell: Beyond.
+        """
+        return self._ask("dir_find_number", r)[0]
 
     def edge_endpoints(self, e: int) -> tuple[int, int]:
         """Source and target of an edge. Refused NoEdge."""
@@ -265,8 +294,11 @@ class Network:
 
     def remove_edge(self, e: int) -> EdgeRemoved:
         """Takes out an edge; the last row takes its place. Refused NoEdge, Broken."""
-        weight, moved, rows = self._ask("remove_edge", e)
-        return EdgeRemoved(weight, None if moved == END else moved, rows)
+        return _removed(*self._ask("remove_edge", e))
+
+    def remove_number(self, r: int) -> EdgeRemoved:
+        """Takes out the edge that bears register number `r`: `find_number`, then `remove_edge`."""
+        return _removed(*self._ask("dir_remove_number", r))
 
     def remove_node(self, a: int) -> NodeRemoved:
         """Takes out a node with its edges; the last node takes its place. Refused NoNode, Broken."""
@@ -293,14 +325,17 @@ class Network:
     def image_read(self, image: bytes) -> None:
         """The network that an image has, in place of this one. Refused NotImage, Version, Full, Broken.
 
-        An image with broken links leaves this one empty; every other refusal leaves it as it was.
+        An image with broken links leaves this one empty. So does, with a directory, one with a number that
+        has no cell, Beyond, or that two edges bear, Taken. Every other refusal leaves it as it was.
         """
         self._ask("image_read", (ctypes.c_uint8 * len(image)).from_buffer_copy(image))
 
     # How a call is made
 
     def _call(self, name: str, *arguments) -> tuple[int, tuple[int, ...]]:
-        """Makes a call: its answer number, and its values."""
+        """Makes a call, with the directory where there is one: its answer number, and its values."""
+        if self._directory is not None and f"dir_{name}" in calls.PARAMETERS:
+            name = f"dir_{name}"
         given, handed, answers = iter(arguments), [], []
         for table in self._tables.values():
             handed += [table, len(table)]
@@ -312,6 +347,9 @@ class Network:
                     handed.append(calls.number(next(given), parameter.type, parameter.name))
                 case "filled" | "read":
                     table = next(given)
+                    handed += [table, len(table)]
+                case "directory":
+                    table = self._directory if self._directory is not None else calls.room("u32", 0)
                     handed += [table, len(table)]
                 case "walker":
                     handed.append(next(given))
@@ -346,6 +384,10 @@ class Network:
         """The items of a walk."""
         tables = sum(parameter.kind == "filled" for parameter in calls.PARAMETERS[name])
         return self._grown(name, tables, *arguments)[1]
+
+
+def _removed(weight: int, moved: int, rows: int) -> EdgeRemoved:
+    return EdgeRemoved(weight, None if moved == END else moved, rows)
 
 
 def _raise(code: int) -> None:

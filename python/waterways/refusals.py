@@ -29,11 +29,14 @@ class NoEdge(Refused):
 
 
 class Nothing(Refused):
-    number, meaning = 5, "nothing found: the end of a list, or a walker at its end"
+    number, meaning = 5, "nothing found: the end of a list, a walker at its end, a number that no row bears"
 
 
 class Broken(Refused):
-    """Where `Network.check` raises it, `direction` and `node` say where the first fault is."""
+    """Where `Network.check` raises it, `direction` and `node` say where the first fault is.
+
+    A directory that is not that of the rows is told as incoming, at one more than the number of nodes.
+    """
 
     number, meaning = 6, "broken links"
     direction: int | None = None
@@ -61,15 +64,15 @@ class NotCommand(Refused):
     number, meaning = 10, "a script line that is no command"
 
 
-# No call gives these yet.
-
-
 class Taken(Refused):
     number, meaning = 11, "the directory's entry of that register number names a row"
 
 
 class Beyond(Refused):
     number, meaning = 12, "a register number that is not below the directory's length"
+
+
+# No call gives these yet.
 
 
 class NotBare(Refused):

@@ -48,6 +48,17 @@ calls! { const:
     fn net_walker_new(n: u32, m: u32, a: u32, walker: *mut [u32; 3]);
     fn net_walker_next(n: u32, m: u32, walker: *mut [u32; 3], neighbor: *mut u32);
     fn net_image_write(n: u32, m: u32, bytes: *mut u8, bytes_len: usize, length: *mut u32);
+    fn net_dir_check(
+        n: u32, m: u32, directory: *const u32, directory_len: usize,
+        rows: *mut u32, direction: *mut u32, node: *mut u32
+    );
+    fn net_dir_image_write(
+        n: u32, m: u32, directory: *const u32, directory_len: usize,
+        bytes: *mut u8, bytes_len: usize, length: *mut u32
+    );
+    fn net_dir_find_number(
+        n: u32, m: u32, directory: *const u32, directory_len: usize, r: u32, edge: *mut u32
+    );
 }
 
 calls! { mut:
@@ -65,4 +76,30 @@ calls! { mut:
         weight: *mut i32, rows: *mut u64, count: *mut u32
     );
     fn net_image_read(n: *mut u32, m: *mut u32, bytes: *const u8, bytes_len: usize);
+    fn net_dir_add_edge(
+        n: u32, m: *mut u32, directory: *mut u32, directory_len: usize, a: u32, b: u32, w: u32, edge: *mut u32
+    );
+    fn net_dir_update_edge(
+        n: u32, m: *mut u32, directory: *mut u32, directory_len: usize, a: u32, b: u32, w: u32, edge: *mut u32
+    );
+    fn net_dir_set_edge_weight(n: u32, m: u32, directory: *mut u32, directory_len: usize, e: u32, w: u32);
+    fn net_dir_remove_edge(
+        n: u32, m: *mut u32, directory: *mut u32, directory_len: usize,
+        e: u32, weight: *mut u32, moved: *mut u32, rows: *mut u32
+    );
+    fn net_dir_remove_node(
+        n: *mut u32, m: *mut u32, directory: *mut u32, directory_len: usize, a: u32,
+        items: *mut u32, items_len: usize,
+        weight: *mut i32, rows: *mut u64, count: *mut u32
+    );
+    fn net_dir_clear_edges(n: u32, m: *mut u32, directory: *mut u32, directory_len: usize);
+    fn net_dir_clear(n: *mut u32, m: *mut u32, directory: *mut u32, directory_len: usize);
+    fn net_dir_image_read(
+        n: *mut u32, m: *mut u32, directory: *mut u32, directory_len: usize,
+        bytes: *const u8, bytes_len: usize
+    );
+    fn net_dir_remove_number(
+        n: u32, m: *mut u32, directory: *mut u32, directory_len: usize,
+        r: u32, weight: *mut u32, moved: *mut u32, rows: *mut u32
+    );
 }

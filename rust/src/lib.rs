@@ -2,7 +2,8 @@
 //!
 //! A [`Network`] owns its tables and lends them to each call. What a call cannot serve it refuses with
 //! a [`Refusal`], and then nothing has changed. Each call is proved to meet its contract, whatever the
-//! tables hold; this crate adds no rule of its own.
+//! tables hold; this crate adds no rule of its own. A network may own a directory, too, by which its edges
+//! are found by their register numbers.
 
 mod calls;
 mod network;

@@ -44,7 +44,8 @@ pub struct NodeRemoved {
 /// Where a network is not sound.
 #[derive(Clone, Copy, Debug, PartialEq, Eq)]
 pub enum Fault {
-    /// The first fault. The node is the node count where some edge is in no list of that direction.
+    /// The first fault. The node is the node count where some edge is in no list of that direction; it is
+    /// one more, and the direction incoming, where the directory is not that of the rows.
     At(EdgeDirection, NodeIndex),
     /// The tables do not fit.
     Tables,
@@ -55,14 +56,20 @@ pub enum Fault {
 #[derive(Clone, Copy, Debug, PartialEq, Eq)]
 pub struct Walker(pub [u32; 3]);
 
-/// A network of waterways, with the names of `UnGraph`.
+/// A network of waterways, with the names of `UnGraph`. It may be made with a directory
+/// ([`Network::with_directory`]): then its register numbers are unique, edges are found by them
+/// ([`Network::find_number`]), and every call keeps the directory in step.
 #[derive(Clone, Debug, PartialEq, Eq)]
-pub struct Network(Tables);
+pub struct Network {
+    tables: Tables,
+    /// For each register number the row that bears it, or [`END`].
+    directory: Option<Vec<u32>>,
+}
 
 /// A call that changes no table.
 macro_rules! ask {
     ($network:expr, $call:ident($($argument:expr),*)) => {{
-        let t = &$network.0;
+        let t = &$network.tables;
         // SAFETY: each table is lent with its own length, and outputs are no part of a table. Lengths and
         // counts need not agree: the call tests them before it reads.
         Refusal::of(unsafe {
@@ -107,13 +114,34 @@ macro_rules! change {
     };
 }
 
+/// One of two calls that change no table: the second where there is a directory, which it is lent behind the
+/// counts.
+macro_rules! ask_either {
+    ($network:expr, $plain:ident | $filed:ident($($argument:expr),*)) => {
+        match &$network.directory {
+            None => ask!($network, $plain($($argument),*)),
+            Some(d) => ask!($network, $filed(d.as_ptr(), d.len() $(, $argument)*)),
+        }
+    };
+}
+
+/// One of two calls that change some, in the same way.
+macro_rules! change_either {
+    ($t:ident, $directory:ident, $plain:ident | $filed:ident($n:expr, $m:expr $(, $argument:expr)*)) => {
+        match $directory {
+            None => change!($t, $plain($n, $m $(, $argument)*)),
+            Some(d) => change!($t, $filed($n, $m, d.as_mut_ptr(), d.len() $(, $argument)*)),
+        }
+    };
+}
+
 impl Network {
     /// An empty network with room for so many nodes and edges.
     pub fn with_rows(nodes: usize, edges: usize) -> Result<Network, Refusal> {
         if nodes > NODE_ROWS || edges > EDGE_ROWS {
             return Err(Refusal::Tables);
         }
-        Ok(Network(Tables {
+        Ok(Network::from_tables(Tables {
             weights: vec![0; nodes],
             heads: vec![END; 2 * nodes],
             registers: vec![0; edges],
@@ -124,34 +152,62 @@ impl Network {
         }))
     }
 
+    /// The same with a directory of so many cells: it holds register numbers 0 to `cells - 1`.
+    pub fn with_directory(nodes: usize, edges: usize, cells: usize) -> Result<Network, Refusal> {
+        let network = Network::with_rows(nodes, edges)?;
+        Ok(network.beside(vec![END; cells]))
+    }
+
     /// A network on tables that may hold anything. What a call cannot serve on them it refuses.
     pub fn from_tables(tables: Tables) -> Network {
-        Network(tables)
+        Network {
+            tables,
+            directory: None,
+        }
+    }
+
+    /// The network with this directory, which may hold anything, too.
+    pub fn beside(self, directory: Vec<u32>) -> Network {
+        Network {
+            directory: Some(directory),
+            ..self
+        }
     }
 
     /// The tables as they are.
     pub fn tables(&self) -> &Tables {
-        &self.0
+        &self.tables
     }
 
-    /// The tables, given back.
+    /// The tables, given back; a directory is not.
     pub fn into_tables(self) -> Tables {
-        self.0
+        self.tables
+    }
+
+    /// The tables and the directory, if it has one, given back.
+    pub fn into_parts(self) -> (Tables, Option<Vec<u32>>) {
+        (self.tables, self.directory)
+    }
+
+    /// The cells of the directory: for each register number the row that bears it, or [`END`]. None where the
+    /// network has no directory.
+    pub fn directory(&self) -> Option<&[u32]> {
+        self.directory.as_deref()
     }
 
     /// How many nodes there are.
     pub fn node_count(&self) -> usize {
-        self.0.n as usize
+        self.tables.n as usize
     }
 
     /// How many edges there are.
     pub fn edge_count(&self) -> usize {
-        self.0.m as usize
+        self.tables.m as usize
     }
 
     /// One more node.
     pub fn add_node(&mut self, weight: i32) -> Result<NodeIndex, Refusal> {
-        let (t, mut node) = (&mut self.0, 0);
+        let (t, mut node) = (&mut self.tables, 0);
         change!(t, net_add_node(&mut t.n, t.m, weight, &mut node))?;
         Ok(NodeIndex(node))
     }
@@ -165,33 +221,40 @@ impl Network {
 
     /// Sets the weight of a node.
     pub fn set_node_weight(&mut self, a: NodeIndex, weight: i32) -> Result<(), Refusal> {
-        let t = &mut self.0;
+        let t = &mut self.tables;
         change!(t, net_set_node_weight(t.n, t.m, a.0, weight))
     }
 
-    /// One more edge, from `a` to `b`.
+    /// One more edge, from `a` to `b`. With a directory refused [`Refusal::Beyond`] where it has no cell for the
+    /// weight, and [`Refusal::Taken`] where the weight's entry names a row.
     pub fn add_edge(
         &mut self,
         a: NodeIndex,
         b: NodeIndex,
         weight: u32,
     ) -> Result<EdgeIndex, Refusal> {
-        let (t, mut edge) = (&mut self.0, 0);
-        change!(t, net_add_edge(t.n, &mut t.m, a.0, b.0, weight, &mut edge))?;
+        let (t, directory, mut edge) = (&mut self.tables, &mut self.directory, 0);
+        change_either!(
+            t,
+            directory,
+            net_add_edge | net_dir_add_edge(t.n, &mut t.m, a.0, b.0, weight, &mut edge)
+        )?;
         Ok(EdgeIndex(edge))
     }
 
-    /// Sets the weight of the edge between `a` and `b`, or adds one.
+    /// Sets the weight of the edge between `a` and `b`, or adds one. With a directory refused as
+    /// [`Network::set_edge_weight`] or [`Network::add_edge`].
     pub fn update_edge(
         &mut self,
         a: NodeIndex,
         b: NodeIndex,
         weight: u32,
     ) -> Result<EdgeIndex, Refusal> {
-        let (t, mut edge) = (&mut self.0, 0);
-        change!(
+        let (t, directory, mut edge) = (&mut self.tables, &mut self.directory, 0);
+        change_either!(
             t,
-            net_update_edge(t.n, &mut t.m, a.0, b.0, weight, &mut edge)
+            directory,
+            net_update_edge | net_dir_update_edge(t.n, &mut t.m, a.0, b.0, weight, &mut edge)
         )?;
         Ok(EdgeIndex(edge))
     }
@@ -203,10 +266,26 @@ impl Network {
         Ok(weight)
     }
 
-    /// Sets the weight of an edge.
+    /// Sets the weight of an edge. With a directory refused [`Refusal::Broken`] where the edge's entry does not
+    /// name it, [`Refusal::Beyond`], and [`Refusal::Taken`] where the weight's entry names another row.
     pub fn set_edge_weight(&mut self, e: EdgeIndex, weight: u32) -> Result<(), Refusal> {
-        let t = &mut self.0;
-        change!(t, net_set_edge_weight(t.n, t.m, e.0, weight))
+        let (t, directory) = (&mut self.tables, &mut self.directory);
+        change_either!(
+            t,
+            directory,
+            net_set_edge_weight | net_dir_set_edge_weight(t.n, t.m, e.0, weight)
+        )
+    }
+
+    /// The edge that bears a register number, by the directory; [`Refusal::Nothing`] where none does. A network
+    /// without a directory is taken as one with no cell: [`Refusal::Beyond`].
+    pub fn find_number(&self, number: u32) -> Result<EdgeIndex, Refusal> {
+        let (d, mut edge) = (self.directory().unwrap_or(&[]), 0);
+        ask!(
+            self,
+            net_dir_find_number(d.as_ptr(), d.len(), number, &mut edge)
+        )?;
+        Ok(EdgeIndex(edge))
     }
 
     /// Source and target of an edge.
@@ -347,7 +426,7 @@ impl Network {
 
     /// The weights of all edges, in row order.
     pub fn all_edge_weights(&self) -> Result<Vec<u32>, Refusal> {
-        let mut items = vec![0; self.edge_count().min(self.0.registers.len())];
+        let mut items = vec![0; self.edge_count().min(self.tables.registers.len())];
         let mut count = 0;
         ask!(
             self,
@@ -377,10 +456,13 @@ impl Network {
         Ok(sum)
     }
 
-    /// Whether the network is sound: the rows read, or its first fault.
+    /// Whether the network is sound, with its directory: the rows read, or its first fault.
     pub fn check(&self) -> Result<u32, Fault> {
         let (mut rows, mut direction, mut node) = (0, 0, 0);
-        let answer = ask!(self, net_check(&mut rows, &mut direction, &mut node));
+        let answer = ask_either!(
+            self,
+            net_check | net_dir_check(&mut rows, &mut direction, &mut node)
+        );
         match answer {
             Ok(()) => Ok(rows),
             Err(Refusal::Broken) if direction == 0 => {
@@ -391,19 +473,29 @@ impl Network {
         }
     }
 
-    /// Takes out an edge; the last row takes its place.
+    /// Takes out an edge; the last row takes its place. With a directory refused [`Refusal::Broken`] also where
+    /// the entry of one of the two does not name it.
     pub fn remove_edge(&mut self, e: EdgeIndex) -> Result<EdgeRemoved, Refusal> {
-        let (mut weight, mut moved, mut rows) = (0, 0, 0);
-        let t = &mut self.0;
-        change!(
-            t,
-            net_remove_edge(t.n, &mut t.m, e.0, &mut weight, &mut moved, &mut rows)
-        )?;
-        let moved = (moved != END).then_some(EdgeIndex(moved));
-        Ok(EdgeRemoved {
-            weight,
-            moved,
-            rows,
+        let (t, directory) = (&mut self.tables, &mut self.directory);
+        removed(|weight, moved, rows| {
+            change_either!(
+                t,
+                directory,
+                net_remove_edge | net_dir_remove_edge(t.n, &mut t.m, e.0, weight, moved, rows)
+            )
+        })
+    }
+
+    /// Takes out the edge that bears a register number: [`Network::find_number`], then [`Network::remove_edge`].
+    pub fn remove_number(&mut self, number: u32) -> Result<EdgeRemoved, Refusal> {
+        let (t, d) = (&mut self.tables, self.directory.as_deref_mut());
+        let d = d.unwrap_or(&mut []);
+        removed(|weight, moved, rows| {
+            let (at, length) = (d.as_mut_ptr(), d.len());
+            change!(
+                t,
+                net_dir_remove_number(t.n, &mut t.m, at, length, number, weight, moved, rows)
+            )
         })
     }
 
@@ -433,12 +525,15 @@ impl Network {
         items: &mut [u32],
     ) -> Result<(NodeRemoved, usize), Refusal> {
         let (mut weight, mut rows) = (0, 0);
-        let t = &mut self.0;
+        let (t, directory) = (&mut self.tables, &mut self.directory);
+        let (weight_at, rows_at) = (&mut weight, &mut rows);
         let count = filled(items, |at, length, count| {
             let (n, m) = (&mut t.n, &mut t.m);
-            change!(
+            change_either!(
                 t,
-                net_remove_node(n, m, a.0, at, length, &mut weight, &mut rows, count)
+                directory,
+                net_remove_node
+                    | net_dir_remove_node(n, m, a.0, at, length, weight_at, rows_at, count)
             )
         })?;
         Ok((NodeRemoved { weight, rows }, count))
@@ -446,20 +541,24 @@ impl Network {
 
     /// Takes out all nodes and edges.
     pub fn clear(&mut self) -> Result<(), Refusal> {
-        let t = &mut self.0;
-        change!(t, net_clear(&mut t.n, &mut t.m))
+        let (t, directory) = (&mut self.tables, &mut self.directory);
+        change_either!(t, directory, net_clear | net_dir_clear(&mut t.n, &mut t.m))
     }
 
     /// Takes out all edges.
     pub fn clear_edges(&mut self) -> Result<(), Refusal> {
-        let t = &mut self.0;
-        change!(t, net_clear_edges(t.n, &mut t.m))
+        let (t, directory) = (&mut self.tables, &mut self.directory);
+        change_either!(
+            t,
+            directory,
+            net_clear_edges | net_dir_clear_edges(t.n, &mut t.m)
+        )
     }
 
     /// The network as an image.
     pub fn image_write(&self) -> Result<Vec<u8>, Refusal> {
-        let nodes = self.node_count().min(self.0.weights.len());
-        let edges = self.edge_count().min(self.0.registers.len());
+        let nodes = self.node_count().min(self.tables.weights.len());
+        let edges = self.edge_count().min(self.tables.registers.len());
         let mut bytes = vec![0; 13 + 12 * nodes + 20 * edges];
         self.image_write_into(&mut bytes)?;
         Ok(bytes)
@@ -468,22 +567,43 @@ impl Network {
     /// The same into a table that may be too short; how many bytes.
     pub fn image_write_into(&self, bytes: &mut [u8]) -> Result<usize, Refusal> {
         let (at, size, mut length) = (bytes.as_mut_ptr(), bytes.len(), 0);
-        ask!(self, net_image_write(at, size, &mut length))?;
+        ask_either!(
+            self,
+            net_image_write | net_dir_image_write(at, size, &mut length)
+        )?;
         Ok(length as usize)
     }
 
-    /// The network that an image has, in place of this one. One with broken links leaves this one empty.
+    /// The network that an image has, in place of this one; a directory becomes that of its rows. One with
+    /// broken links leaves this one empty; so does, with a directory, one with a number that has no cell
+    /// ([`Refusal::Beyond`]) or that two edges bear ([`Refusal::Taken`]).
     pub fn image_read(&mut self, bytes: &[u8]) -> Result<(), Refusal> {
-        let t = &mut self.0;
-        change!(
+        let (t, directory) = (&mut self.tables, &mut self.directory);
+        let (at, length) = (bytes.as_ptr(), bytes.len());
+        change_either!(
             t,
-            net_image_read(&mut t.n, &mut t.m, bytes.as_ptr(), bytes.len())
+            directory,
+            net_image_read | net_dir_image_read(&mut t.n, &mut t.m, at, length)
         )
     }
 }
 
 /// The items that a table has room for at first.
 const FIRST_LENGTH: usize = 64;
+
+/// Lends a call the cells for an edge that it takes out.
+fn removed(
+    call: impl FnOnce(*mut u32, *mut u32, *mut u32) -> Result<(), Refusal>,
+) -> Result<EdgeRemoved, Refusal> {
+    let (mut weight, mut moved, mut rows) = (0, 0, 0);
+    call(&mut weight, &mut moved, &mut rows)?;
+    let moved = (moved != END).then_some(EdgeIndex(moved));
+    Ok(EdgeRemoved {
+        weight,
+        moved,
+        rows,
+    })
+}
 
 /// Lends a call the output table, its length and a count; how many items it gave.
 fn filled(

@@ -14,9 +14,9 @@ pub enum Refusal {
     NoNode = 3,
     /// The named edge is not there.
     NoEdge = 4,
-    /// Nothing found; the end of a list; a walker at its end.
+    /// Nothing found; the end of a list; a walker at its end; a register number that no row bears.
     Nothing = 5,
-    /// Broken links.
+    /// Broken links; an entry of the directory that is not the row's.
     Broken = 6,
     /// The output holds fewer items than the answer needs.
     Short = 7,
@@ -26,11 +26,11 @@ pub enum Refusal {
     Version = 9,
     /// A script line that is no command.
     NotCommand = 10,
-    /// The directory's entry of that register number names a row; no call gives this or those below yet.
+    /// The directory's entry of that register number names a row.
     Taken = 11,
     /// A register number that is not below the directory's length.
     Beyond = 12,
-    /// A node to be dropped that still has edges.
+    /// A node to be dropped that still has edges; no call gives this or those below yet.
     NotBare = 13,
     /// Lists that no ranking of the edges gives.
     NoRanking = 14,

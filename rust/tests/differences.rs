@@ -531,6 +531,23 @@ fn a_sum() {
     assert_eq!(theirs.neighbors(at(1)).map(|b| theirs[b]).sum::<i32>(), 10);
 }
 
+#[test]
+fn a_directory() {
+    let (ours, mut theirs) = network_a(5);
+    let mut cells = vec![END; 15];
+    cells[10..14].copy_from_slice(&[0, 1, 2, 3]);
+    let mut ours = ours.beside(cells);
+    assert_eq!(ours.find_number(13), Ok(edge(3)));
+    // A second waterway with number 10, and one with a number that has no cell.
+    refused(&ours, Refusal::Taken, |g| g.add_edge(node(1), node(2), 10));
+    refused(&ours, Refusal::Beyond, |g| g.add_edge(node(1), node(2), 15));
+    assert_eq!(theirs.add_edge(at(1), at(2), 10), on(4));
+    // Row 3 moves into row 0, and number 13 follows.
+    assert_eq!(ours.remove_number(10).map(|gone| gone.weight), Ok(10));
+    assert_eq!(ours.find_number(13), Ok(edge(0)));
+    refused(&ours, Refusal::Nothing, |g| g.find_number(10));
+}
+
 // The tables
 
 #[test]
