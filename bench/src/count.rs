@@ -24,6 +24,8 @@ pub fn instructions(work: Work, shape: Shape, side: &str) -> Option<f64> {
     counted.status.success().then(|| count / operations as f64)
 }
 
+const NO_COUNTERPART: &str = "no counterpart";
+
 fn task(work: Work, shape: Shape) -> Task {
     Task::new(work, shape, Size::ALL[0], 0)
 }
@@ -37,8 +39,8 @@ pub fn once(sides: &[(&str, Make)], [work, shape, side]: [&str; 3]) -> Result<()
     let named = sides.iter().find(|s| s.0 == side);
     let &(_, make) = named.ok_or("no such side")?;
     let (task, mut room) = (task(work, shape), Room::new(Size::ALL[0]));
-    let mut side = make(Size::ALL[0]);
+    let mut side = work.side(make, Size::ALL[0]).ok_or(NO_COUNTERPART)?;
     task.prepare(&mut *side, &mut room);
     let answers = timed_part(&task, &mut *side, &mut room);
-    answers.map(|_| ()).ok_or("no counterpart".to_string())
+    answers.map(|_| ()).ok_or(NO_COUNTERPART.to_string())
 }

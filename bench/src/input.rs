@@ -18,6 +18,11 @@ impl Size {
         let edges = 4 * nodes;
         Size { nodes, edges }
     }
+
+    /// The register numbers that a directory has cells for: two for each edge.
+    pub const fn cells(self) -> usize {
+        2 * self.edges
+    }
 }
 
 /// How edges are spread over the nodes.
@@ -47,6 +52,10 @@ pub struct Input {
     pub hub_out: Vec<u32>,
     /// Nodes to take out, by their numbers then: where there are hubs, these first.
     pub nodes_out: Vec<u32>,
+    /// Register numbers to look for: about every other one is an edge's, where edges bear different ones.
+    pub asked: Vec<u32>,
+    /// The register numbers of all edges, in any order.
+    pub numbers_out: Vec<u32>,
 }
 
 impl Input {
@@ -59,9 +68,35 @@ impl Input {
             all_out: (1..=size.edges).rev().map(|m| random.below(m)).collect(),
             hub_out: hub_out(&edges, random),
             nodes_out: nodes_out(size, shape, random),
+            asked: Vec::new(),
+            numbers_out: Vec::new(),
             edges,
         }
     }
+
+    /// The same for a directory: every edge bears a number of its own.
+    pub fn numbered(size: Size, shape: Shape, seed: u64) -> Input {
+        let mut input = Input::new(size, shape, seed);
+        let random = &mut Random(!seed);
+        let mut numbers = shuffled(size.cells(), random);
+        input.asked = (0..size.edges).map(|_| random.pick(&numbers)).collect();
+        numbers.truncate(size.edges);
+        let order = shuffled(size.edges, random);
+        input.numbers_out = order.iter().map(|&e| numbers[e as usize]).collect();
+        for (edge, number) in input.edges.iter_mut().zip(numbers) {
+            edge[2] = number;
+        }
+        input
+    }
+}
+
+/// The numbers below a limit, in any order.
+fn shuffled(limit: usize, random: &mut Random) -> Vec<u32> {
+    let mut numbers: Vec<u32> = (0..limit as u32).collect();
+    for k in (1..limit).rev() {
+        numbers.swap(k, random.below(k + 1) as usize);
+    }
+    numbers
 }
 
 fn weight(random: &mut Random) -> i32 {

@@ -1,5 +1,5 @@
-//! The loops that the proved library has inside, in its crate `loops`: one C call makes all calls of a
-//! table and adds up what they tell.
+//! The loops that the proved library has inside, in its crates `loops` and `dirloops`: one C call makes all
+//! calls of a table and adds up what they tell.
 
 use waterways::Tables;
 
@@ -30,13 +30,23 @@ loops! {
     fn loop_find_edges(n: u32, m: u32, pairs: *const u32, pairs_len: usize);
     fn loop_neighbors(n: u32, m: u32, items: *mut u32, items_len: usize);
     fn loop_remove_edges(n: u32, m: *mut u32, numbers: *const u32, numbers_len: usize);
+    fn loop_dir_add_edges(
+        n: u32, m: *mut u32, directory: *mut u32, directory_len: usize, edges: *const u32, edges_len: usize
+    );
+    fn loop_find_numbers(
+        n: u32, m: u32, directory: *const u32, directory_len: usize, numbers: *const u32, numbers_len: usize
+    );
+    fn loop_remove_numbers(
+        n: u32, m: *mut u32, directory: *mut u32, directory_len: usize, numbers: *const u32, numbers_len: usize
+    );
 }
 
 /// Lends the tables to a loop.
 macro_rules! lend {
     ($t:ident, $call:ident($($argument:expr),*)) => {
-        // SAFETY: each table is lent with its own length, and is held by `&mut`, so nobody else reads or changes it
-        // meanwhile. Lengths and counts need not agree: each call of the loop tests them before it reads.
+        // SAFETY: each table, and a directory, is lent with its own length, and is held by `&mut`, so nobody else
+        // reads or changes it meanwhile. Lengths and counts need not agree: each call of the loop tests them before
+        // it reads.
         unsafe {
             $call(
                 $t.weights.as_mut_ptr(),
@@ -85,5 +95,31 @@ pub fn remove_edges(t: &mut Tables, numbers: &[u32]) -> u64 {
     lend!(
         t,
         loop_remove_edges(t.n, &mut t.m, numbers.as_ptr(), numbers.len())
+    )
+}
+
+/// As `add_edges`, with a directory.
+pub fn dir_add_edges(t: &mut Tables, directory: &mut [u32], edges: &[[u32; 3]]) -> u64 {
+    let (at, length) = (directory.as_mut_ptr(), directory.len());
+    let cells = edges.as_flattened();
+    lend!(
+        t,
+        loop_dir_add_edges(t.n, &mut t.m, at, length, cells.as_ptr(), cells.len())
+    )
+}
+
+pub fn find_numbers(t: &mut Tables, directory: &mut [u32], numbers: &[u32]) -> u64 {
+    let (at, length) = (directory.as_ptr(), directory.len());
+    lend!(
+        t,
+        loop_find_numbers(t.n, t.m, at, length, numbers.as_ptr(), numbers.len())
+    )
+}
+
+pub fn remove_numbers(t: &mut Tables, directory: &mut [u32], numbers: &[u32]) -> u64 {
+    let (at, length) = (directory.as_mut_ptr(), directory.len());
+    lend!(
+        t,
+        loop_remove_numbers(t.n, &mut t.m, at, length, numbers.as_ptr(), numbers.len())
     )
 }

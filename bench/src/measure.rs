@@ -21,7 +21,8 @@ pub fn measure(
     (work, shape, size): (Work, Shape, Size),
     rounds: usize,
 ) -> Result<Measured, String> {
-    let mut made: Vec<Box<dyn Side>> = sides.iter().map(|make| make(size)).collect();
+    let made = sides.iter().map(|make| work.side(*make, size));
+    let mut made: Vec<Option<Box<dyn Side>>> = made.collect();
     let mut room = Room::new(size);
     let mut times = vec![Vec::new(); made.len()];
     for round in 0..=rounds {
@@ -29,7 +30,8 @@ pub fn measure(
         let mut ends = Vec::new();
         for k in 0..made.len() {
             let side = (round + k) % made.len();
-            let Some((time, end)) = run(&task, &mut *made[side], &mut room) else {
+            let ran = made[side].as_mut();
+            let Some((time, end)) = ran.and_then(|made| run(&task, &mut **made, &mut room)) else {
                 continue;
             };
             ends.push(end);

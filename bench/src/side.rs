@@ -48,6 +48,23 @@ pub trait Side {
         None
     }
 
+    /// An empty side of that size with a directory: every edge that is added bears a number of its own below
+    /// the size's cells. `None` where the side has no such thing.
+    fn with_directory(&self, _size: Size) -> Option<Box<dyn Side>> {
+        None
+    }
+
+    /// The edge that bears a number, or `END`. Only a side with a directory is asked.
+    fn find_number(&self, _number: u32) -> u32 {
+        END
+    }
+
+    /// Takes out the edge that bears a number: its weight, and the old row of the edge that took its place, or
+    /// `END`. Only a side with a directory is asked.
+    fn remove_number(&mut self, _number: u32) -> (u32, u32) {
+        (0, END)
+    }
+
     /// Answer number and length; `None` where the side runs no scripts.
     fn run(&self, _script: &[u8], _out: &mut [u8]) -> Option<u64> {
         None
@@ -78,6 +95,15 @@ pub trait Side {
 
     fn remove_many(&mut self, numbers: &[u32]) -> u64 {
         let removed = numbers.iter().map(|&e| self.remove_edge(e));
+        removed.map(u64::from).sum()
+    }
+
+    fn find_many_numbers(&mut self, numbers: &[u32]) -> u64 {
+        numbers.iter().map(|&r| told(self.find_number(r))).sum()
+    }
+
+    fn remove_many_numbers(&mut self, numbers: &[u32]) -> u64 {
+        let removed = numbers.iter().map(|&r| self.remove_number(r).0);
         removed.map(u64::from).sum()
     }
 
@@ -113,6 +139,16 @@ pub trait Side {
     fn remove_edges(&mut self, numbers: &[u32]) -> u64 {
         let removed = numbers.iter().map(|&e| self.remove_edge(e));
         removed.fold(0, |sum, weight| stir(sum, weight.into()))
+    }
+
+    fn find_numbers(&self, numbers: &[u32]) -> u64 {
+        let found = numbers.iter().map(|&r| self.find_number(r));
+        found.fold(0, |sum, edge| stir(sum, edge.into()))
+    }
+
+    fn remove_numbers(&mut self, numbers: &[u32]) -> u64 {
+        let removed = numbers.iter().map(|&r| self.remove_number(r).1);
+        removed.fold(0, |sum, moved| stir(sum, moved.into()))
     }
 
     /// Takes out all edges of the hubs, head first: what the removal of a node does before the node goes.

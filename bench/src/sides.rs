@@ -1,5 +1,7 @@
 //! Ours, by the safe crate and so by one C call an operation, and by the library's own loops; and graph.rs.
 
+use std::collections::HashMap;
+use std::collections::hash_map::Entry;
 use std::mem;
 
 use oracle::graph::{self, UnGraph};
@@ -25,11 +27,21 @@ impl Ours {
         self.0 = Network::from_tables(tables);
         sum
     }
+
+    /// The same with its directory.
+    fn on_directory(&mut self, work: impl FnOnce(&mut Tables, &mut [u32]) -> u64) -> u64 {
+        let stand_in = Network::with_rows(0, 0).expect(SERVED);
+        let (mut tables, directory) = mem::replace(&mut self.0, stand_in).into_parts();
+        let mut directory = directory.expect("it was made with one");
+        let sum = work(&mut tables, &mut directory);
+        self.0 = Network::from_tables(tables).beside(directory);
+        sum
+    }
 }
 
 const SERVED: &str = "the network is sound and has room";
 
-fn number(edge: Result<EdgeIndex, Refusal>) -> u32 {
+fn row(edge: Result<EdgeIndex, Refusal>) -> u32 {
     match edge {
         Ok(edge) => edge.0,
         Err(Refusal::Nothing) => END,
@@ -56,7 +68,7 @@ impl Side for Ours {
     }
 
     fn find_edge(&self, a: u32, b: u32) -> u32 {
-        number(self.0.find_edge(NodeIndex(a), NodeIndex(b)))
+        row(self.0.find_edge(NodeIndex(a), NodeIndex(b)))
     }
 
     fn neighbors_into(&self, a: u32, items: &mut [u32]) -> usize {
@@ -69,7 +81,7 @@ impl Side for Ours {
 
     fn first_edge(&self, a: u32, k: usize) -> u32 {
         let direction = [EdgeDirection::Outgoing, EdgeDirection::Incoming][k];
-        number(self.0.first_edge(NodeIndex(a), direction))
+        row(self.0.first_edge(NodeIndex(a), direction))
     }
 
     fn remove_edge(&mut self, e: u32) -> u32 {
@@ -90,11 +102,31 @@ impl Side for Ours {
         Some(self.0.edge_count())
     }
 
+    fn with_directory(&self, size: Size) -> Option<Box<dyn Side>> {
+        let empty = Network::with_directory(size.nodes, size.edges, size.cells());
+        Some(Box::new(Ours(empty.expect(SERVED))))
+    }
+
+    fn find_number(&self, number: u32) -> u32 {
+        row(self.0.find_number(number))
+    }
+
+    fn remove_number(&mut self, number: u32) -> (u32, u32) {
+        let removed = self.0.remove_number(number).expect(SERVED);
+        (removed.weight, removed.moved.map_or(END, |edge| edge.0))
+    }
+
     fn run(&self, script: &[u8], out: &mut [u8]) -> Option<u64> {
         Some(host::net_run(script, out))
     }
 
     fn add_many(&mut self, input: &Input) -> u64 {
+        if self.0.directory().is_some() {
+            return self.on_directory(|t, directory| {
+                let nodes = loops::add_nodes(t, &input.weights);
+                nodes + loops::dir_add_edges(t, directory, &input.edges)
+            });
+        }
         self.on_tables(|t| {
             let nodes = loops::add_nodes(t, &input.weights);
             nodes + loops::add_edges(t, &input.edges)
@@ -111,6 +143,14 @@ impl Side for Ours {
 
     fn remove_many(&mut self, numbers: &[u32]) -> u64 {
         self.on_tables(|t| loops::remove_edges(t, numbers))
+    }
+
+    fn find_many_numbers(&mut self, numbers: &[u32]) -> u64 {
+        self.on_directory(|t, directory| loops::find_numbers(t, directory, numbers))
+    }
+
+    fn remove_many_numbers(&mut self, numbers: &[u32]) -> u64 {
+        self.on_directory(|t, directory| loops::remove_numbers(t, directory, numbers))
     }
 }
 
@@ -174,7 +214,102 @@ impl Side for Theirs {
         removed.expect("the node is there")
     }
 
+    fn with_directory(&self, size: Size) -> Option<Box<dyn Side>> {
+        let graph = Theirs(UnGraph::with_capacity(size.nodes, size.edges));
+        let rows = HashMap::with_capacity(size.edges);
+        Some(Box::new(WithMap { graph, rows }))
+    }
+
     fn run(&self, script: &[u8], out: &mut [u8]) -> Option<u64> {
         Some(oracle::run(script, out))
+    }
+}
+
+/// graph.rs and what a Rust user would keep beside it: the row of each register number, in step with every edge that is added, taken
+/// out or moved.
+struct WithMap {
+    graph: Theirs,
+    rows: HashMap<u32, graph::EdgeIndex>,
+}
+
+impl Side for WithMap {
+    fn clear(&mut self) {
+        self.graph.clear();
+        self.rows.clear();
+    }
+
+    fn counts(&self) -> [usize; 2] {
+        self.graph.counts()
+    }
+
+    fn add_node(&mut self, weight: i32) -> u32 {
+        self.graph.add_node(weight)
+    }
+
+    /// A number that stands in a row already is not given a second time.
+    fn add_edge(&mut self, a: u32, b: u32, weight: u32) -> u32 {
+        match self.rows.entry(weight) {
+            Entry::Occupied(_) => panic!("each number is given once"),
+            Entry::Vacant(vacant) => {
+                let e = self.graph.add_edge(a, b, weight);
+                vacant.insert(graph::EdgeIndex(e));
+                e
+            }
+        }
+    }
+
+    fn find_edge(&self, a: u32, b: u32) -> u32 {
+        self.graph.find_edge(a, b)
+    }
+
+    fn neighbors_into(&self, a: u32, items: &mut [u32]) -> usize {
+        self.graph.neighbors_into(a, items)
+    }
+
+    fn sum_around(&self, a: u32) -> i64 {
+        self.graph.sum_around(a)
+    }
+
+    fn first_edge(&self, a: u32, k: usize) -> u32 {
+        self.graph.first_edge(a, k)
+    }
+
+    fn remove_edge(&mut self, e: u32) -> u32 {
+        let weight = self.graph.remove_edge(e);
+        self.rows.remove(&weight);
+        self.follow(graph::EdgeIndex(e));
+        weight
+    }
+
+    /// graph.rs does not tell which rows move: the map is made anew.
+    fn remove_node(&mut self, a: u32, items: &mut [u32]) -> i32 {
+        let weight = self.graph.remove_node(a, items);
+        let numbers = self.graph.0.all_edge_weights().copied().zip(0..);
+        self.rows = numbers.map(|(r, e)| (r, graph::EdgeIndex(e))).collect();
+        weight
+    }
+
+    fn find_number(&self, number: u32) -> u32 {
+        self.rows.get(&number).map_or(END, |edge| edge.0)
+    }
+
+    fn remove_number(&mut self, number: u32) -> (u32, u32) {
+        let e = self.rows.remove(&number).expect("the number is borne");
+        let weight = self.graph.remove_edge(e.0);
+        match self.follow(e) {
+            true => (weight, self.graph.counts()[1] as u32),
+            false => (weight, END),
+        }
+    }
+}
+
+impl WithMap {
+    /// The last row has taken the place of row e, unless e was the last.
+    fn follow(&mut self, e: graph::EdgeIndex) -> bool {
+        let moved = self.graph.0.edge_weight(e);
+        if let Some(&number) = moved {
+            self.rows.insert(number, e);
+        }
+        moved.is_some()
     }
 }

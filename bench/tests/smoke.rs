@@ -47,6 +47,9 @@ impl Side for Idle {
     fn remove_node(&mut self, _: u32, _: &mut [u32]) -> i32 {
         0
     }
+    fn with_directory(&self, _: Size) -> Option<Box<dyn Side>> {
+        Some(Box::new(Idle))
+    }
 }
 
 #[test]
