@@ -1,8 +1,8 @@
 -- The lookup by register number, in the document's order, on every network and directory.
 use Prim.Native.Nat.{ℕ, _≤_, _<_}
-use mathlib.Core.Path.{_≡_, refl, ap, _∙_}
+use mathlib.Core.Path.{_≡_, refl}
 use mathlib.Core.Logic.{_⊎_, ⊎-elim}
-use mathlib.Core.Bool.{Bool, true, false, _&&_}
+use mathlib.Core.Bool.{Bool, true, false}
 use native.Mathlib.Omega.{arith}
 use borrow.Author.Tests.{eq-eqb, ne-eqb, lt-ltb, le-ltb}
 use lib.Dec.{eqb, ltb}
@@ -15,7 +15,7 @@ use Rattle.directory.specs.Directory.{entry, bears, Filed, registerOf}
 use Rattle.directory.proofs.Laws.{inside}
 use Rattle.dirremoval.specs.Removal.{removeEdgeFiled}
 use Rattle.bynumber.specs.Numbers.{findNumber, removeNumber}
-use Rattle.demands.specs.Demand1.{refusal}
+use Rattle.demands.proofs.Judged.{second-false}
 
 module _ (f : Filed) (r : ℕ) where
   abbrev row : ℕ
@@ -41,12 +41,8 @@ module _ (f : Filed) (r : ℕ) where
   no-bearer h =
       ⊎-elim
       (λ l. rw (le-ltb row (f .net .m) l))
-      (λ n. and-false (ltb row (f .net .m)) (eqb (registerOf (f .net) row) r) (ne-eqb (registerOf (f .net) row) r n))
+      (λ n. second-false (ltb row (f .net .m)) (eqb (registerOf (f .net) row) r) (ne-eqb (registerOf (f .net) row) r n))
       h
-    where
-      and-false : (a b : Bool) → b ≡ false → (a && b) ≡ false
-      and-false true b h = h
-      and-false false b h = refl
 
   pub number-other : fits (f .net) ≡ true → r < length (f .directory) → (row ≡ END → ⊥)
       → (f .net .m ≤ row) ⊎ (registerOf (f .net) row ≡ r → ⊥) → findNumber f r .number ≡ 6
@@ -59,11 +55,7 @@ module _ (f : Filed) (r : ℕ) where
       let n : row ≡ END → ⊥ = λ z. omega (arith, small (f .net) t) in
       rw (t, lt-ltb r (length (f .directory)) (inside (f .directory) r n), ne-eqb row END n, lt-ltb row (f .net .m) l, eq-eqb (registerOf (f .net) row) r q)
 
-  -- the edge that is found is taken out; what refuses the lookup refuses the removal
+  -- the edge that is found is taken out
   pub removed-found : (e : ℕ) → findNumber f r ≡ done e → removeNumber f r ≡ removeEdgeFiled f e
   unfolding removeNumber
   removed-found e p = rw p
-
-  pub removed-not : (findNumber f r .number ≡ 0 → ⊥) → removeNumber f r ≡ refusal (0, 0, 0) f (findNumber f r .number)
-  unfolding removeNumber
-  removed-not n = rw (ne-eqb (findNumber f r .number) 0 n)

@@ -1,14 +1,14 @@
 -- Demand 1 of the calls with a directory, `demand-1-filed`: what the call without one refuses, then what the directory has against it.
 use Prim.{Unit, tt}
 use Prim.Native.Nat.{ℕ, _+_, _-_, _<_}
-use mathlib.Core.Path.{_≡_, refl, sym, ap, subst, _∙_}
-use mathlib.Core.Logic.{_⊎_, inl, inr, ⊎-elim}
-use mathlib.Core.Bool.{Bool, true, false, cond, not, _&&_, _||_}
+use mathlib.Core.Path.{_≡_, refl, sym, ap, _∙_}
+use mathlib.Core.Logic.{_⊎_, inr, ⊎-elim}
+use mathlib.Core.Bool.{Bool, true, false, not, _&&_}
 use mathlib.Core.List.{List, [], _∷_}
 use native.Mathlib.Omega.{arith}
-use borrow.Author.Tests.{eq-eqb, ne-eqb, eqb-true, ltb-true, lt-ltb}
+use borrow.Author.Tests.{eq-eqb, ne-eqb, ltb-true, lt-ltb}
 use lib.Dec.{eqb, ltb}
-use lib.IntN.{ℤ, pos}
+use lib.IntN.{pos}
 use lib.ListN.{length}
 use Rattle.index.specs.declared.EdgeDirection.{EdgeDirection}
 use Rattle.index.specs.declared.EdgeDirection.the-variants.{Incoming}
@@ -16,34 +16,33 @@ use Rattle.index.specs.declared.Refusal.the-variants.{Broken}
 use Rattle.index.specs.Index.{END, isEnd, numberOf}
 use Rattle.index.specs.Refusals.{refusalNo}
 use Rattle.tables.specs.Net.{Net, fits}
-use Rattle.tables.specs.Answers.{Told, Out, out, done, refused, unless}
+use Rattle.tables.specs.Answers.{Told, Out, out, refused}
 use Rattle.tables.proofs.Laws.{both, tested}
 use Rattle.lists.specs.Chain.{In}
 use Rattle.find.specs.Find.{updateEdge}
 use Rattle.sound.specs.declared.Checked.{Checked}
 use Rattle.sound.specs.declared.Checked.the-variants as Checked·
-use Rattle.sound.specs.Check.{checked, accepted, toldChecked}
+use Rattle.sound.specs.Check.{checked, toldChecked}
 use Rattle.sound.proofs.Exactly.{small}
 use Rattle.removal.specs.Removal.{takenOut, removeEdge}
 use Rattle.closing.specs.Closing.{Closed, removeNode}
 use Rattle.letters.specs.Letters.{among}
 use Rattle.directory.specs.Directory.{entry, directoryOf, bears, named, Filed, filed, registerOf, beside, isRightFor}
 use Rattle.directory.proofs.Laws.{right-is}
-use Rattle.directory.proofs.Every.{right-says}
-use Rattle.dirsound.specs.Check.{alsoRight, checkedFiled, isSoundFiled, SoundFiled}
-use Rattle.dirsound.proofs.Exactly.{accepted-right}
-use Rattle.dirrows.specs.Calls.{claimed, entered, reweighed, addEdgeFiled, setEdgeWeightFiled, clearEdgesFiled, clearFiled}
+use Rattle.dirsound.specs.Check.{alsoRight, checkedFiled, isSoundFiled}
+use Rattle.dirrows.specs.Calls.{entered, reweighed, addEdgeFiled, setEdgeWeightFiled, clearEdgesFiled, clearFiled}
 use Rattle.dirfind.specs.Find.{updateEdgeFiled}
 use Rattle.dirremoval.specs.Removal.{removeEdgeFiled}
 use Rattle.bynumber.specs.Numbers.{findNumber, removeNumber}
-use Rattle.dirclosing.specs.Closing.{ClosedFiled, refiled, removeNodeFiled}
+use Rattle.dirclosing.specs.Closing.{refiled, removeNodeFiled}
+use Rattle.dirclosing.proofs.Kept.{sound-so}
 use Rattle.dirimage.specs.Calls.{imageWriteFiled, imageReadFiled}
 use Rattle.dirimage.specs.Load.{loadLeft, LoadEnds, stays, goes}
 use Rattle.dirimage.proofs.Load.{load-ends}
 use Rattle.demands.specs.Demand1.{ServedOr, served, refused-by, refusal, Refuses, Tells}
 use Rattle.demands.specs.Wish1.{Demand1Filed}
 use Rattle.demands.proofs.Demand1.{in-list, by-number, passing, passes-or, if-not, taking-out, demand-1}
-use Rattle.demands.proofs.Judged.{claim-ways, reweigh-ways}
+use Rattle.demands.proofs.Judged.{judged-ways, reweigh-ways}
 
 -- each of some numbers is among others, and none is 0
 abbrev within : List ℕ → List ℕ → Bool
@@ -74,7 +73,7 @@ refused-beside {xs = xs} {others = others} f o rest h (refused-by why i e) r =
 -- a new row is entered: 12, 11; a row gets another number: 6, 12, 11
 module _ {numbers : List ℕ} (beyond : among 12 numbers ≡ true) (taken : among 11 numbers ≡ true) (f : Filed) (w : ℕ) where
   entering : (o : Out ℕ Net) → o .answer .number ≡ 0 → Refuses numbers 0 f (entered f w o)
-  entering o z = claim-ways f 0 END w _ (Refuses numbers 0 f) (served z) (by-number 12 beyond) (by-number 11 taken)
+  entering o z = judged-ways f 0 END w _ (Refuses numbers 0 f) (served z) (by-number 12 beyond) (by-number 11 taken)
 
   reweighing : {A : Type 0} (zeros : A) (e : ℕ) (o : Out A Net) → among 6 numbers ≡ true → o .answer .number ≡ 0 → Refuses numbers zeros f (reweighed f zeros e w o)
   reweighing zeros e o six z =
@@ -132,15 +131,6 @@ loading : (f : Filed) (o : Out Unit Filed) → LoadEnds f o
 loading f o (stays z s) = served (ap (λ (t : Told Unit). t .number) z)
 loading f o (goes why i e) = refused-by (refusalNo why) i e
 
--- what an accepted network and directory are
-pub sound-says : (f : Filed) → isSoundFiled f ≡ true → SoundFiled f
-sound-says f h = go (checkedFiled f) refl h
-  where
-    go : (c : Checked) → checkedFiled f ≡ c → accepted c ≡ true → SoundFiled f
-    go (Checked·.Accepted rows) e h = accepted-right f rows e .0
-    go (Checked·.Fault d a) e h = absurd (let z : _≡_ {A = ℕ} 0 1 = cc in omega arith)
-    go (Checked·.Refused why) e h = absurd (let z : _≡_ {A = ℕ} 0 1 = cc in omega arith)
-
 -- a node's removal that is refused leaves a right directory as it was
 removing-node : (f : Filed) (a : ℕ) (items : List ℕ) → Refuses (1 ∷ 3 ∷ 6 ∷ 7 ∷ []) (pos 0, 0, 0) (f, items) (removeNodeFiled f a items)
 unfolding removeNodeFiled
@@ -149,7 +139,7 @@ removing-node f a items =
     if-not (fits g) 1 refl
     (if-not (ltb a (g .n)) 3 refl
     (passing (isSoundFiled f) (by-number 6 refl) (λ s.
-    let S = sound-says f s in
+    let S = sound-so f s in
     go (removeNode g a items) (demand-1 .remove-node g a items) (right-is (registerOf g) (g .m) (f .directory) (S .2) (small g (S .0))))))
   where
     go : (o : Closed) → Refuses (1 ∷ 3 ∷ 6 ∷ 7 ∷ []) (pos 0, 0, 0) (f .net, items) o

@@ -1,21 +1,19 @@
 -- Beside a sound network its directory changes no answer but to 11 or 12, `demand-2-filed`; and the check looks at it last.
 use Prim.{Unit, tt}
-use Prim.Native.Nat.{ℕ, _+_, _*_, _-_, _≤_, _<_}
+use Prim.Native.Nat.{ℕ, _+_, _<_}
 use mathlib.Core.Path.{_≡_, refl, sym, ap, _∙_}
-use mathlib.Core.Logic.{_⊎_, inl, inr}
+use mathlib.Core.Logic.{_↔_, inl, inr}
 use mathlib.Core.Bool.{Bool, true, false}
 use mathlib.Core.List.{List}
 use native.Mathlib.Decide.{decLt, ℕ-discrete}
 use native.Mathlib.Omega.{arith}
 use borrow.Author.Tests.{eq-eqb, ne-eqb, lt-ltb, le-ltb, ltb-true}
-use lib.Dec.{eqb, ltb}
-use lib.IntN.{ℤ, pos}
-use lib.ListN.{length}
+use lib.Dec.{ltb}
 use Rattle.index.specs.declared.Refusal.the-variants.{Tables, NoEdge, Broken}
 use Rattle.index.specs.Index.{END}
 use Rattle.index.proofs.Laws.{not-zero}
 use Rattle.tables.specs.Net.{Net, fits}
-use Rattle.tables.specs.Answers.{Told, Out, out, done, refused}
+use Rattle.tables.specs.Answers.{Out, refused}
 use Rattle.tables.proofs.Laws.{tested}
 use Rattle.lookups.specs.Lookups.{setEdgeWeight}
 use Rattle.rows.specs.Calls.{addEdge}
@@ -24,28 +22,23 @@ use Rattle.sound.specs.declared.Checked.{Checked}
 use Rattle.sound.specs.declared.Checked.the-variants as Checked·
 use Rattle.sound.specs.Sound.{lists}
 use Rattle.sound.specs.Check.{checked, isSound, toldChecked}
-use Rattle.sound.proofs.Exactly.{small, sound-accepted, accepted-sound}
-use Rattle.removal.specs.Removal.{removeEdge}
-use Rattle.closing.specs.Closing.{removeNode}
+use Rattle.sound.proofs.Exactly.{sound-accepted, accepted-sound}
 use Rattle.image.specs.Calls.{imageWrite}
 use Rattle.image.proofs.Copies.{is-sound-says}
-use Rattle.directory.specs.Directory.{entry, Filed, filed, registerOf, beside, isRightFor, RightFor}
-use Rattle.directory.proofs.Laws.{right-is}
+use Rattle.image.proofs.RoundTrip.{six-unsound}
+use Rattle.directory.specs.Directory.{entry, Filed, registerOf, beside, isRightFor, RightFor}
 use Rattle.directory.proofs.Every.{right-so, right-says}
-use Rattle.dirsound.specs.Check.{alsoRight, checkedFiled, isSoundFiled, SoundFiled}
+use Rattle.dirsound.specs.Check.{alsoRight, checkedFiled, SoundFiled}
 use Rattle.dirsound.proofs.Exactly.{right-accepted, accepted-right}
 use Rattle.dirrows.specs.Calls.{entered, reweighed, addEdgeFiled, setEdgeWeightFiled, clearEdgesFiled, clearFiled}
 use Rattle.dirfind.specs.Find.{updateEdgeFiled}
-use Rattle.dirremoval.specs.Removal.{removeEdgeFiled}
 use Rattle.dirremoval.proofs.Kept.{edge-same}
-use Rattle.dirclosing.specs.Closing.{removeNodeFiled}
 use Rattle.dirclosing.proofs.Kept.{node-same}
 use Rattle.dirimage.specs.Calls.{imageWriteFiled}
 use Rattle.demands.specs.Demand1.{refusal}
 use Rattle.demands.specs.Demand2.{SoundNet}
 use Rattle.demands.specs.Wish1.{Same, SameOr, Names, Demand2Filed}
-use Rattle.demands.proofs.Judged.{claim-ways}
-use Rattle.demands.proofs.DirectoryNumbers.{sound-says}
+use Rattle.demands.proofs.Judged.{judged-ways}
 
 -- a call is refused as without a directory, or what follows is the same
 module _ {A : Type 0} (f : Filed) (o : Out A Net) (rest : Out A Filed) where
@@ -66,12 +59,12 @@ module _ {A : Type 0} (f : Filed) (o : Out A Net) (rest : Out A Filed) where
 -- a number is judged
 same-entered : (f : Filed) (w : ℕ) (o : Out ℕ Net) → SameOr (refusal 0 f) o (entered f w o)
 same-entered f w o =
-    claim-ways f 0 END w _ (SameOr (refusal 0 f) o) (inr (refl, refl)) (inl (12, inr (inl refl), refl)) (inl (11, inl refl, refl))
+    judged-ways f 0 END w _ (SameOr (refusal 0 f) o) (inr (refl, refl)) (inl (12, inr (inl refl), refl)) (inl (11, inl refl, refl))
 
 same-reweighed : {A : Type 0} (f : Filed) (zeros : A) (e w : ℕ) (o : Out A Net) → Names f e → SameOr (refusal zeros f) o (reweighed f zeros e w o)
 same-reweighed f zeros e w o q =
     rw (eq-eqb (entry (f .directory) (registerOf (f .net) e)) e q)
-    (claim-ways f zeros e w _ (SameOr (refusal zeros f) o) (inr (refl, refl)) (inl (12, inr (inl refl), refl)) (inl (11, inl refl, refl)))
+    (judged-ways f zeros e w _ (SameOr (refusal zeros f) o) (inr (refl, refl)) (inl (12, inr (inl refl), refl)) (inl (11, inl refl, refl)))
 
 -- an edge that has its weight set is in use
 set-below : (g : Net) (e w : ℕ) → setEdgeWeight g e w .answer .number ≡ 0 → e < g .m
@@ -153,15 +146,9 @@ by-right f P n wrong right = go (isRightFor f) refl
         let R = right-says (registerOf (f .net)) (f .net .m) (f .directory) e in
         right R e (λ (t, S). n (t, S, R))
 
-pub node-6 : (f : Filed) (a : ℕ) (items : List ℕ) → fits (f .net) ≡ true → a < f .net .n → (SoundFiled f → ⊥)
-    → removeNodeFiled f a items ≡ refusal (pos 0, 0, 0) (f, items) 6
-unfolding removeNodeFiled
-node-6 f a items t l n = rw (t, lt-ltb a (f .net .n) l, unsound (isSoundFiled f) refl)
-  where
-    unsound : (b : Bool) → isSoundFiled f ≡ b → b ≡ false
-    unsound false e = refl
-    unsound true e = absurd (n (sound-says f e))
-
-pub write-6 : (f : Filed) (bytes : List ℕ) → fits (f .net) ≡ true → (SoundFiled f → ⊥) → imageWriteFiled f bytes ≡ refusal 0 bytes 6
+pub write-6 : (f : Filed) (bytes : List ℕ) → fits (f .net) ≡ true → imageWriteFiled f bytes .answer .number ≡ 6 ↔ (SoundFiled f → ⊥)
 unfolding imageWriteFiled imageWrite
-write-6 f bytes t n = by-right f _ n (λ e. rw (t, e)) (λ R e u. rw (t, e, not-sound (f .net) t u))
+write-6 f bytes t = (
+  λ h S. six-unsound (f .net) bytes (lists (f .net)) (S .1) (sym (ap (λ (o : Out ℕ (List ℕ)). o .answer .number) (demand-2-filed f S .image-write bytes)) ∙ h),
+  λ n. by-right f _ n (λ e. rw (t, e)) (λ R e u. rw (t, e, not-sound (f .net) t u)),
+)

@@ -1,8 +1,8 @@
 -- When a call with a directory is refused as without one, and what a register number has against it: `first-so`, `judged-so`, `reweighed-so`.
-use Prim.Native.Nat.{ℕ, _≤_, _<_}
+use Prim.Native.Nat.{ℕ}
 use mathlib.Core.Path.{_≡_, refl}
 use mathlib.Core.Logic.{⊎-elim}
-use mathlib.Core.Bool.{Bool, true, false, _||_}
+use mathlib.Core.Bool.{Bool, true, false, _&&_, _||_}
 use borrow.Author.Tests.{eq-eqb, ne-eqb, lt-ltb, le-ltb}
 use lib.Dec.{eqb, ltb}
 use lib.ListN.{length}
@@ -11,7 +11,6 @@ use Rattle.index.specs.Index.{END, isEnd}
 use Rattle.tables.specs.Net.{Net}
 use Rattle.tables.specs.Answers.{Out, out, unless}
 use Rattle.directory.specs.Directory.{entry, rowNamed, Filed, filed, registerOf, beside}
-use Rattle.dirrows.specs.declared.parts.Claim.{Claim}
 use Rattle.dirrows.specs.declared.parts.Claim.the-variants as Claim·
 use Rattle.dirrows.specs.Calls.{claimed, ifFree, reentered, reweighed}
 use Rattle.demands.specs.Demand1.{refusal}
@@ -28,6 +27,10 @@ module _ {A : Type 0} (f : Filed) (o : Out A Net) (rest : Out A Filed) where
 either-true : (a b : Bool) → b ≡ true → (a || b) ≡ true
 either-true true b h = refl
 either-true false b h = h
+
+pub second-false : (a b : Bool) → b ≡ false → (a && b) ≡ false
+second-false true b h = h
+second-false false b h = refl
 
 -- a claim on number w for row e, and what it comes to
 module _ {A : Type 0} (f : Filed) (zeros : A) (e w : ℕ) (served : Out A Filed) where
@@ -47,9 +50,9 @@ module _ {A : Type 0} (f : Filed) (zeros : A) (e w : ℕ) (served : Out A Filed)
       }
 
   -- it is free, or refused 12 or 11
-  pub claim-ways : (P : Out A Filed → Type 0) → P served → P (refusal zeros f 12) → P (refusal zeros f 11) → P (ifFree f zeros (claimed (f .directory) w e) served)
+  pub judged-ways : (P : Out A Filed → Type 0) → P served → P (refusal zeros f 12) → P (refusal zeros f 11) → P (ifFree f zeros (claimed (f .directory) w e) served)
   unfolding claimed
-  claim-ways P s b t = go (ltb w (length (f .directory))) (isEnd (entry (f .directory) w) || eqb (entry (f .directory) w) e)
+  judged-ways P s b t = go (ltb w (length (f .directory))) (isEnd (entry (f .directory) w) || eqb (entry (f .directory) w) e)
     where
       go : (i j : Bool) → P (ifFree f zeros (unless i (Claim·.Refused Beyond) (unless j (Claim·.Refused Taken) Claim·.Free)) served)
       go true true = s
@@ -73,5 +76,5 @@ module _ {A : Type 0} (f : Filed) (zeros : A) (e w : ℕ) (o : Out A Net) where
     where
       go : (i : Bool)
           → P (ifFree f zeros (unless i (Claim·.Refused Broken) (claimed (f .directory) w e)) (out (o .answer) (filed (o .after) (reentered (registerOf (f .net)) (f .directory) e w))))
-      go true = claim-ways f zeros e w _ P s b t
+      go true = judged-ways f zeros e w _ P s b t
       go false = m

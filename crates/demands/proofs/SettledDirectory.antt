@@ -1,6 +1,5 @@
 -- The contracts of the calls with a directory, and of their parts, settle them: a second answer that meets one is equal.
 use Prim.{tt}
-use Prim.Native.Nat.{ℕ}
 use mathlib.Core.Path.{_≡_, refl, sym, ap, _∙_}
 use mathlib.Core.List.{[]}
 use lib.ListN.{length}

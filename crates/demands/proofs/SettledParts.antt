@@ -126,10 +126,12 @@ pub links-move-last : Settles links.parts.move_last.ended links.parts.move_last.
 links-move-last κs given x y p q = λ i. (_, (alike (p .registers-are) (q .registers-are) i, (alike (p .links-are) (q .links-are) i, (alike (p .ends-are) (q .ends-are) i, _))))
 
 pub removal-take-out : Settles removal.parts.take_out.ended removal.parts.take_out.Reads.Post
-removal-take-out κs given x y p q = ap (λ o. (o .0, (o .1 .heads, (o .1 .registers, (o .1 .links, (o .1 .ends, (_, (o .1 .m, _)))))))) (told-alike toldEdgeRemoved edge-removed-told-once (p []) (q []))
+removal-take-out κs given x y p q =
+    ap (λ o. (o .0, (o .1 .heads, (o .1 .registers, (o .1 .links, (o .1 .ends, (_, (o .1 .m, _)))))))) (told-alike toldEdgeRemoved edge-removed-told-once (p []) (q []))
 
 pub removal-fill-gap : Settles removal.parts.fill_gap.ended removal.parts.fill_gap.Reads.Post
-removal-fill-gap κs given x y p q = ap (λ o. (o .0, (o .1 .heads, (o .1 .registers, (o .1 .links, (o .1 .ends, (_, (o .1 .m, _)))))))) (told-alike toldEdgeRemoved edge-removed-told-once (p []) (q []))
+removal-fill-gap κs given x y p q =
+    ap (λ o. (o .0, (o .1 .heads, (o .1 .registers, (o .1 .links, (o .1 .ends, (_, (o .1 .m, _)))))))) (told-alike toldEdgeRemoved edge-removed-told-once (p []) (q []))
 
 pub stripping-strip : Settles stripping.parts.strip.ended stripping.parts.strip.Reads.Post
 stripping-strip κs given x y p q =

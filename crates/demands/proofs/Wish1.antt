@@ -1,18 +1,15 @@
 -- Wish 1, `wish-1`, from the laws of the calls with a directory.
-use Prim.{Unit, tt}
-use Prim.Native.Nat.{ℕ, _+_, _*_, _-_, _≤_, _<_}
+use Prim.{tt}
+use Prim.Native.Nat.{ℕ, _+_, _*_, _-_, _≤_}
 use mathlib.Core.Path.{_≡_, refl, sym, ap, subst, _∙_}
 use mathlib.Core.Logic.{_⊎_, ⊎-elim}
-use mathlib.Core.Bool.{Bool, true, false, _&&_}
-use mathlib.Core.List.{List}
+use mathlib.Core.Bool.{false, _&&_}
 use native.Mathlib.Decide.{ℕ-discrete}
-use native.Mathlib.Omega.{arith}
 use borrow.Author.Tests.{eq-eqb, ne-eqb, lt-ltb, le-ltb}
 use lib.IntN.{ℤ}
 use lib.ListN.{length}
 use Rattle.index.specs.Index.{END}
-use Rattle.tables.specs.Net.{Net, fits}
-use Rattle.tables.specs.Answers.{Told, Out}
+use Rattle.tables.specs.Answers.{Told}
 use Rattle.lookups.specs.Lookups.{setEdgeWeight}
 use Rattle.rows.specs.Calls.{addEdge, clearEdges, clear}
 use Rattle.lists.specs.declared.Item.the-variants.{Weight}
@@ -22,34 +19,31 @@ use Rattle.sound.specs.Sound.{lists}
 use Rattle.sound.specs.Check.{toldChecked}
 use Rattle.sound.proofs.Exactly.{small}
 use Rattle.removal.specs.Removal.{removeEdge}
-use Rattle.directory.specs.Directory.{entry, none, Filed, filed, registerOf, named}
+use Rattle.directory.specs.Directory.{entry, Filed, registerOf, named}
 use Rattle.directory.proofs.Laws.{apart}
 use Rattle.dirsound.specs.Check.{SoundFiled}
 use Rattle.dirsound.proofs.Exactly.{right-accepted}
 use Rattle.dirrows.specs.Calls.{entered, reweighed, addEdgeFiled, setEdgeWeightFiled, clearEdgesFiled, clearFiled}
 use Rattle.dirfind.specs.Find.{updateEdgeFiled}
 use Rattle.dirremoval.specs.Removal.{removeEdgeFiled}
-use Rattle.bynumber.proofs.Kept.{bears-found}
+use Rattle.bynumber.proofs.Kept.{bears-found, number-refused}
+use Rattle.dirclosing.proofs.Kept.{unsound-6-filed, six-unsound-filed}
 use Rattle.dirimage.proofs.Load.{load-served, load-tells, load-as}
 use Rattle.demands.specs.Wish1.{Names, Wish1}
 use Rattle.demands.proofs.Demand3.{demand-3}
-use Rattle.demands.proofs.Judged.{first-so, rest-so, judged-so, reweighed-so}
+use Rattle.demands.proofs.Judged.{second-false, first-so, rest-so, judged-so, reweighed-so}
 use Rattle.demands.proofs.DirectoryNumbers.{demand-1-filed}
-use Rattle.demands.proofs.DirectorySame.{demand-2-filed, accepted-so, links-first, checked-last, node-6, write-6}
+use Rattle.demands.proofs.DirectorySame.{demand-2-filed, accepted-so, links-first, checked-last, write-6}
 use Rattle.demands.proofs.DirectoryFollows.{follows-each}
-use Rattle.demands.proofs.ByNumber.{number-tables, number-beyond, number-none, number-other, number-found, removed-found, removed-not}
+use Rattle.demands.proofs.ByNumber.{number-tables, number-beyond, number-none, number-other, number-found, removed-found}
 
 -- both entries name their rows, or one does not
 and-not : (f : Filed) (e x : ℕ) → (Names f e → ⊥) ⊎ (Names f x → ⊥) → (named f e && named f x) ≡ false
 and-not f e x h =
     ⊎-elim
     (λ n. rw (ne-eqb (entry (f .directory) (registerOf (f .net) e)) e n))
-    (λ n. and-false (named f e) (named f x) (ne-eqb (entry (f .directory) (registerOf (f .net) x)) x n))
+    (λ n. second-false (named f e) (named f x) (ne-eqb (entry (f .directory) (registerOf (f .net) x)) x n))
     h
-  where
-    and-false : (a b : Bool) → b ≡ false → (a && b) ≡ false
-    and-false true b h = h
-    and-false false b h = refl
 
 -- the rows read are those without a directory
 same-reads : (f : Filed) (e : ℕ) → SoundFiled f → removeEdgeFiled f e .answer .values .2 ≡ removeEdge (f .net) e .answer .values .2
@@ -81,7 +75,7 @@ wish-1 =
       accepted-sound = accepted-so;
       links-first = links-first;
       checked-last = checked-last;
-      remove-node-6 = node-6;
+      remove-node-6 = λ f a items t l. (six-unsound-filed f a items t l, unsound-6-filed f a items t l);
       image-write-6 = write-6;
       follows = follows-each;
       cleared-edges = λ f t. rw t;
@@ -115,7 +109,7 @@ wish-1 =
       number-found = number-found;
       looked-up = λ f e S l. bears-found f (S .0) (S .2) (registerOf (f .net) e) e l refl;
       removed-found = λ f r e p. removed-found f r e p;
-      removed-not = removed-not;
+      removed-not = number-refused;
       load-fills = load-served;
       load-tells = load-tells;
       load-as = load-as;

@@ -1,9 +1,9 @@
 -- Wish 1: a network run with a directory, the row of each register number. A field for each sentence of the document. What does not speak of a sound network
 -- holds of every network and every directory.
-use Prim.{Unit, tt}
+use Prim.{tt}
 use Prim.Native.Nat.{ℕ, _+_, _*_, _-_, _≤_, _<_}
 use mathlib.Core.Path.{_≡_}
-use mathlib.Core.Logic.{_⊎_}
+use mathlib.Core.Logic.{_⊎_, _↔_}
 use mathlib.Core.Bool.{true}
 use mathlib.Core.List.{List, [], _∷_}
 use lib.IntN.{ℤ, pos}
@@ -12,7 +12,7 @@ use Rattle.index.specs.declared.EdgeDirection.{EdgeDirection}
 use Rattle.index.specs.declared.Refusal.the-variants.{Broken}
 use Rattle.index.specs.Index.{END, numberOf}
 use Rattle.tables.specs.Net.{Net, fits}
-use Rattle.tables.specs.Answers.{Told, Out, out, done, refused}
+use Rattle.tables.specs.Answers.{Out, out, done, refused}
 use Rattle.lookups.specs.Lookups.{setNodeWeight, setEdgeWeight}
 use Rattle.rows.specs.Calls.{addNode, addEdge, clearEdges, clear}
 use Rattle.lists.specs.Chain.{In}
@@ -25,7 +25,7 @@ use Rattle.removal.specs.Removal.{removeEdge}
 use Rattle.removal.specs.Lists.{rowsRead, Longest}
 use Rattle.closing.specs.Closing.{removeNode}
 use Rattle.image.specs.Calls.{imageWrite, imageRead}
-use Rattle.directory.specs.Directory.{entry, none, directoryOf, followed, Filed, filed, registerOf, RightFor}
+use Rattle.directory.specs.Directory.{entry, none, followed, Filed, filed, registerOf, RightFor}
 use Rattle.dirsound.specs.Check.{checkedFiled, SoundFiled, Follows}
 use Rattle.dirrows.specs.Calls.{addEdgeFiled, setEdgeWeightFiled, clearEdgesFiled, clearFiled}
 use Rattle.dirfind.specs.Find.{updateEdgeFiled}
@@ -145,9 +145,9 @@ pub record Wish1 : Type 0 where
   pub links-first : (f : Filed) → (SoundNet (f .net) → ⊥) → checkedFiled f ≡ checked (f .net)
   pub checked-last : (f : Filed) → SoundNet (f .net) → (RightFor f → ⊥) → toldChecked (checkedFiled f) ≡ refused Broken (0, 1, f .net .n + 1)
   -- so node removal and image write ask for it: 6 exactly when network and directory are not sound
-  pub remove-node-6 : (f : Filed) (a : ℕ) (items : List ℕ) → fits (f .net) ≡ true → a < f .net .n → (SoundFiled f → ⊥)
-      → removeNodeFiled f a items ≡ refusal (pos 0, 0, 0) (f, items) 6
-  pub image-write-6 : (f : Filed) (bytes : List ℕ) → fits (f .net) ≡ true → (SoundFiled f → ⊥) → imageWriteFiled f bytes ≡ refusal 0 bytes 6
+  pub remove-node-6 : (f : Filed) (a : ℕ) (items : List ℕ) → fits (f .net) ≡ true → a < f .net .n
+      → removeNodeFiled f a items .answer .number ≡ 6 ↔ (SoundFiled f → ⊥)
+  pub image-write-6 : (f : Filed) (bytes : List ℕ) → fits (f .net) ≡ true → imageWriteFiled f bytes .answer .number ≡ 6 ↔ (SoundFiled f → ⊥)
   -- 'it follows every add, update, removal and moved row'; 'The directory's length is the caller's'
   pub follows : (f : Filed) → SoundFiled f → FollowsEach f
   -- 'clears set all to none'

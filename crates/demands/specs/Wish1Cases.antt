@@ -1,12 +1,12 @@
 -- Wish 1 worked out by hand: network A, whose rows 0 to 3 bear the numbers 10 to 13, with a directory of 15 cells.
-use Prim.{Unit, tt}
+use Prim.{tt}
 use Prim.Native.Nat.{ℕ}
 use mathlib.Core.Path.{_≡_}
 use mathlib.Core.List.{List, [], _∷_, _++_}
 use lib.IntN.{pos}
 use lib.ListN.{replicate, set}
 use Rattle.index.specs.Index.{END}
-use Rattle.tables.specs.Answers.{Told, Out, out, done}
+use Rattle.tables.specs.Answers.{out, done}
 use Rattle.tables.proofs.NetworkA.{networkA}
 use Rattle.sound.specs.Check.{toldChecked}
 use Rattle.directory.specs.Directory.{Filed, filed}

@@ -2,7 +2,7 @@
 -- when 12 and 11 are told, `load-tells`, and what is else, `load-as`; its directory keeps its length, `load-length`.
 -- An image is written as without a directory where that is right, `write-as`, `write-served`; else it is refused 6, `write-wrong`.
 use Prim.{Unit, tt}
-use Prim.Native.Nat.{ℕ, _≤_, _<_}
+use Prim.Native.Nat.{ℕ, _<_}
 use mathlib.Core.Path.{_≡_, refl, sym, ap, _∙_}
 use mathlib.Core.Logic.{inl, inr}
 use mathlib.Core.Bool.{Bool, true, false, cond, _&&_, _||_}
@@ -18,8 +18,9 @@ use Rattle.index.specs.Refusals.{refusalNo}
 use Rattle.index.proofs.Laws.{not-zero}
 use Rattle.tables.specs.Net.{Net, fits}
 use Rattle.tables.specs.Answers.{Out, out, refused, unless}
-use Rattle.tables.proofs.Laws.{tested, both, fit-says}
+use Rattle.tables.proofs.Laws.{tested, both}
 use Rattle.sound.specs.Check.{isSound}
+use Rattle.sound.proofs.Exactly.{small}
 use Rattle.layout.specs.Layout.{version, headBytes, imageLength, marked, versionIn, nodesIn, edgesIn}
 use Rattle.imagerows.specs.Image.{loaded}
 use Rattle.imagerows.proofs.Loads.{loaded-fits}
@@ -39,12 +40,6 @@ use Rattle.dirimage.specs.Calls.{kept, settledFiled, filledBy, imageRead
 use Rattle.dirimage.specs.Load.{loadLeft, LoadEnds, stays, goes, LoadTells}
 use Rattle.dirimage.proofs.Filing.{FilingEnds, beyond, taken, free, filing-ends, filing-beyond, filing-taken, filing-number, filed-right}
 
--- the rows are far fewer than `END`
-pub few : (g : Net) → fits g ≡ true → g .m ≤ END
-few g t =
-    let f = fit-says (length (g .weights)) (length (g .heads)) (length (g .registers)) (length (g .links)) (length (g .ends)) (g .n) (g .m) t in
-    omega (arith, f .edges-most, f .m-within)
-
 -- rows h that were loaded into the tables of g
 settled-ends : (g h : Net) (d : List ℕ) → fits h ≡ true → isSound h ≡ true → vacated h ≡ vacated g → LoadEnds (filed g d) (settledFiled h d)
 unfolding settledFiled
@@ -56,7 +51,7 @@ settled-ends g h d t s v = go (filing (registerOf h) (h .m) (length d)) refl (fi
         rw p (goes Taken (inr (inr (inr (inr (inr (inr (inl refl))))))) (ap (λ k. out (refused Taken tt) (filed k (none d))) v))
     go r z (free p a b) =
         rw p
-        (stays refl (record { sound = (t, is-sound-says h s, filed-right (registerOf h) (h .m) (length d) (few h t) (z ∙ p)); directory-is = refl }))
+        (stays refl (record { sound = (t, is-sound-says h s, filed-right (registerOf h) (h .m) (length d) (small h t) (z ∙ p)); directory-is = refl }))
 
 pub load-ends : (f : Filed) (bytes : List ℕ) → LoadEnds f (imageReadFiled f bytes)
 unfolding imageReadFiled imageRead readOne settled

@@ -11,6 +11,7 @@ use Rattle.index.specs.Index.{END}
 use Rattle.tables.specs.Net.{Net, fits}
 use Rattle.tables.specs.Answers.{Out, out, done, onto}
 use Rattle.layout.specs.Numbers.{Bytes}
+use Rattle.sound.proofs.Exactly.{small}
 use Rattle.image.specs.Calls.{imageWrite, imageRead}
 use Rattle.image.specs.RoundTrip.{Cells, SameRows}
 use Rattle.image.proofs.Copies.{write-says}
@@ -20,7 +21,7 @@ use Rattle.directory.proofs.Laws.{right-only}
 use Rattle.dirrows.specs.Parts.{claimNo}
 use Rattle.dirimage.specs.Calls.{imageReadFiled, imageWriteFiled}
 use Rattle.dirimage.proofs.Filing.{right-files}
-use Rattle.dirimage.proofs.Load.{few, brought, load-as, load-right, load-length, write-as, write-served}
+use Rattle.dirimage.proofs.Load.{brought, load-as, load-right, load-length, write-as, write-served}
 
 -- a directory is right for all rows that bear the same numbers
 right-same : (number now : ℕ → ℕ) (m : ℕ) (d : List ℕ) → ((e : ℕ) → e < m → now e ≡ number e) → Right number m d → Right now m d
@@ -43,16 +44,16 @@ module _ (f t : Filed) (bytes : List ℕ) (fit-f : fits (f .net) ≡ true) (R : 
       → (imageReadFiled t bytes .answer ≡ done tt) × SameRows (f .net) (imageReadFiled t bytes .after .net) × (imageReadFiled t bytes .after .directory ≡ f .directory)
   read-back a s =
       let h = imageRead (t .net) bytes .after in
-      let small : h .m ≤ END = rw (s .m-is) (few (f .net) fit-f) in
+      let fewer : h .m ≤ END = rw (s .m-is) (small (f .net) fit-f) in
       let P = rows-right f h s R in
       let number : imageReadFiled t bytes .answer .number ≡ 0 =
-      brought t bytes (ap (λ a. a .number) a) ∙ rw same (ap claimNo (right-files (registerOf h) (h .m) (f .directory) small P)) in
+      brought t bytes (ap (λ a. a .number) a) ∙ rw same (ap claimNo (right-files (registerOf h) (h .m) (f .directory) fewer P)) in
       let is = served-as t bytes number in
       let d = imageReadFiled t bytes .after .directory in
       let Q : Right (registerOf h) (h .m) d = subst (λ k. Right (registerOf k) (k .m) d) (is .1) (load-right t bytes number) in (
         is .0 ∙ a,
         subst (SameRows (f .net)) (sym (is .1)) s,
-        right-only (registerOf h) (h .m) d (f .directory) small (load-length t bytes ∙ same) Q P,
+        right-only (registerOf h) (h .m) d (f .directory) fewer (load-length t bytes ∙ same) Q P,
       )
 
 -- what was written, read into other tables beside another directory
