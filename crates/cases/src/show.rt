@@ -1,5 +1,6 @@
 // How a case is printed: a space before each number and each byte, `END` by name, and bytes in hexadecimal.
 use libc::STDOUT_FILENO;
+use printer::print_number;
 
 pub fn text(s: &[u8]) {
     io::write_all(STDOUT_FILENO, s);
@@ -11,7 +12,7 @@ fn number(x: u32) {
         return;
     }
     text(b" ");
-    io::print_decimal(STDOUT_FILENO, x as u64);
+    print_number(x as u64);
 }
 
 pub fn cells(label: &[u8], column: &[u32]) {

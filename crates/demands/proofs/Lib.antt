@@ -16,3 +16,4 @@ pub mod DirectoryFollows
 pub mod ByNumber
 pub mod Wish1
 pub mod Wish1Cases
+pub mod Wish6

@@ -1,6 +1,6 @@
 -- The same of what a script is made of, and of its run: its texts, its answer lines, its commands. Assumes nothing.
 use Prim.{tt}
-use mathlib.Core.Path.{ap}
+use mathlib.Core.Path.{refl, ap}
 use Rattle.printing.proofs as printing
 use Rattle.text.proofs as text
 use Rattle.reply.proofs as reply
@@ -10,11 +10,18 @@ use Rattle.dispatch.proofs as dispatch
 use Rattle.obeying.proofs as obeying
 use Rattle.script.proofs as script
 use Rattle.telling.proofs as telling
+use Rattle.printer.proofs as printer
 use Rattle.demands.specs.Settles.{Settles, SettlesAll}
 use Rattle.demands.proofs.Alike.{alike, answers-alike, allColumns, nodeColumns, edgeColumns, noColumns}
 
 pub printing-width : Settles printing.parts.width.ended printing.parts.width.Reads.Post
 printing-width κs given x y p q = answers-alike (p .is) (q .is)
+
+pub printing-leading : Settles printing.parts.leading.ended printing.parts.leading.Reads.Post
+printing-leading κs given x y p q = answers-alike p q
+
+pub printing-glyph : Settles printing.parts.glyph.ended printing.parts.glyph.Reads.Post
+printing-glyph κs given x y p q = answers-alike p q
 
 pub printing-write-number : Settles printing.parts.write_number.ended printing.parts.write_number.Reads.Post
 printing-write-number κs given x y p q = λ i. (alike (p .ends-at) (q .ends-at) i, (alike (p .bytes-are) (q .bytes-are) i, _))
@@ -175,3 +182,7 @@ telling-write-ending κs given x y p q = λ i. (alike (p .ends-at) (q .ends-at) 
 
 pub telling-tell-run : Settles telling.parts.tell_run.ended telling.parts.tell_run.Reads.Post
 telling-tell-run κs given x y p q = λ i. (alike (p .writes .ends-at) (q .writes .ends-at) i, (_, (alike (p .writes .bytes-are) (q .writes .bytes-are) i, _)))
+
+-- nothing is answered, and nothing is lent: which bytes C is given no contract can say
+pub printer-print-number : SettlesAll printer.print_number.ended printer.print_number.Reads.Pre printer.print_number.Reads.Post
+printer-print-number = (λ κs given. tt, λ κs given x y p q. refl)

@@ -5,3 +5,4 @@ pub mod Demand3
 pub mod Starred
 pub mod Wish1
 pub mod Wish1Cases
+pub mod Wish6

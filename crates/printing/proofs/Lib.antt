@@ -1,3 +1,4 @@
 pub mod Spelling
+pub mod FromLeft
 pub mod Putting
 pub mod Signs

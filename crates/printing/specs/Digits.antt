@@ -1,5 +1,5 @@
 -- Numbers as they are printed.
-use Prim.Native.Nat.{ℕ, zero, suc, _/_, _%_}
+use Prim.Native.Nat.{ℕ, zero, suc, _/_, _%_, _^_}
 use mathlib.Core.Bool.{true, false}
 use mathlib.Core.List.{List, [], _∷_, _++_}
 use lib.Dec.{ltb}
@@ -18,6 +18,11 @@ spelt (suc most) x =
 -- the decimal digits of x, which has never more than x + 1 of them
 unfoldable pub digits : ℕ → List ℕ
 digits x = spelt (suc x) x
+
+-- the last k digits of x as they come out from the left: the one that counts 10 ^ (k - 1) first, and each behind it counts a tenth of that
+unfoldable pub fromLeft : ℕ → ℕ → List ℕ
+fromLeft zero x = []
+fromLeft (suc k) x = glyph (x / 10 ^ k % 10) ∷ fromLeft k x
 
 -- a negative number has a `-` before its digits
 abbrev pub signed : ℤ → List ℕ

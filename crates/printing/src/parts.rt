@@ -23,8 +23,9 @@ pub fn width(x: u64) -> usize
     wide
 }
 
-// The power of ten that x's first digit counts.
-fn leading(x: u64) -> u64
+// The power of ten that the first digit of x counts: 1 for 7, 100 for 345. It is held to x / 10 before it grows: ten times the highest power
+// is no u64.
+pub fn leading(x: u64) -> u64
     ensures { λ r. ⌜ r ≡ 10 ^ (length (digits x) - 1) ⌝ }
 {
     let most = x / 10;
@@ -35,14 +36,16 @@ fn leading(x: u64) -> u64
     power
 }
 
-fn glyph(d: u64) -> u8
+// The byte of a digit: `0` to `9` stand in a row.
+pub fn glyph(d: u64) -> u8
     requires { ⌜ d < 10 ⌝ }
     ensures { λ r. ⌜ r ≡ glyph d ⌝ }
 {
     b'0' + (d as u8)
 }
 
-// Writes the digits of x, the first one first.
+// Writes the digits of x, the first one first: 345 is 3 times 100, its rest 45 is 4 times 10, and the rest of that 5 times 1. Each power is a
+// tenth of the one before; a tenth of 1 is 0, which ends the loop.
 pub fn write_number(out: &mut [u8], at: usize, x: u64) -> usize
     requires { ⌜ at + length (digits x) ≤ length (now out) ⌝ }
     ensures { λ r. ⌜ Writes (now (out .entry)) (now (out .exit)) at (digits x) r ⌝ }
@@ -52,9 +55,9 @@ pub fn write_number(out: &mut [u8], at: usize, x: u64) -> usize
     let mut power = leading(x);
     while 0 < power {
         out[to] = glyph(rest / power);
+        to += 1;
         rest = rest % power;
         power = power / 10;
-        to += 1;
     }
     to
 }

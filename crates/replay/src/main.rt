@@ -7,11 +7,11 @@
 ghost use Prim.Native.Nat.{_≤_, _<_};
 ghost use mathlib.Core.Path.{_≡_};
 ghost use lib.ListN.{length, take};
-use io::print_decimal;
 use io::read_full;
 use io::write_all;
 use libc::STDIN_FILENO;
 use libc::STDOUT_FILENO;
+use printer::print_number;
 use script::net_run;
 
 // Room for the longest script of the list, and more than for its longest buffer: what lies behind a buffer is not to be touched either.
@@ -39,8 +39,8 @@ fn read_number() -> usize {
         + digit(text[4])
 }
 
-fn print_number(x: usize, behind: &[u8]) {
-    print_decimal(STDOUT_FILENO, x as u64);
+fn print_with(x: usize, behind: &[u8]) {
+    print_number(x as u64);
     write_all(STDOUT_FILENO, behind);
 }
 
@@ -76,10 +76,10 @@ fn answer(place: usize, script: &[u8], room: usize) {
     let mut out = [MARK; OUT_ROOM];
     let told = run(script, &mut out, room);
     let written = (told % 4294967296) as usize;
-    print_number(place, b": ");
-    print_number((told / 4294967296) as usize, b" ");
-    print_number(written, b" ");
-    print_number(touched(&out, written), b"\n");
+    print_with(place, b": ");
+    print_with((told / 4294967296) as usize, b" ");
+    print_with(written, b" ");
+    print_with(touched(&out, written), b"\n");
     let shown = lend(&out, written);
     write_all(STDOUT_FILENO, &out[..shown]);
 }

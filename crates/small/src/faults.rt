@@ -3,9 +3,9 @@
 use crate::Tables;
 use index::EdgeDirection;
 use index::EdgeIndex;
-use io::print_decimal;
 use io::write_all;
 use libc::STDOUT_FILENO;
+use printer::print_number;
 use sound::Checked;
 
 const END: u32 = EdgeIndex::END.0;
@@ -50,16 +50,16 @@ fn told(label: &[u8], t: Tables) {
     write_all(STDOUT_FILENO, label);
     match sound::check(&weights, &heads, &registers, &links, &ends, 2, 2) {
         Checked::Accepted(rows) => {
-            print_decimal(STDOUT_FILENO, 0);
+            print_number(0);
             crate::count(rows);
         }
         Checked::Fault(d, a) => {
-            print_decimal(STDOUT_FILENO, 6);
+            print_number(6);
             crate::number(d.number() as u64);
             crate::count(a.0);
         }
         Checked::Refused(why) => {
-            print_decimal(STDOUT_FILENO, why.number() as u64);
+            print_number(why.number() as u64);
         }
     }
     write_all(STDOUT_FILENO, b"\n");

@@ -4,9 +4,9 @@
 // the same lines.
 ghost use Prim.Native.Nat.{_<_};
 use index::EdgeDirection;
-use io::print_decimal;
 use io::write_all;
 use libc::STDOUT_FILENO;
+use printer::print_number;
 use sound::Checked;
 
 mod faults;
@@ -126,7 +126,7 @@ fn all(networks: u32, n: u32, m: u32) -> Tally {
 
 fn number(x: u64) {
     write_all(STDOUT_FILENO, b" ");
-    print_decimal(STDOUT_FILENO, x);
+    print_number(x);
 }
 
 fn count(x: u32) {
@@ -137,7 +137,7 @@ fn line(n: u32, m: u32) {
     let i = 3 * (n as usize % 3) + (m as usize % 3);
     let networks = NETWORKS[i];
     let t = all(networks, n, m);
-    print_decimal(STDOUT_FILENO, n as u64);
+    print_number(n as u64);
     count(m);
     write_all(STDOUT_FILENO, b":");
     count(networks);
