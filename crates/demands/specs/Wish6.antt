@@ -1,5 +1,5 @@
 -- Wish 6: decimal printing, written again. A field for each thing that its sentences ask of the bytes. That no scratch array is filled is read in the two
--- functions that print digits: `printing::parts::write_number`, which has the contract of before, and `printer::print_number`.
+-- functions that print digits: `printing::parts::write_number`, whose contract is the one that it had, and `printer::print_number`.
 use Prim.Native.Nat.{ℕ}
 use mathlib.Core.Path.{_≡_}
 use mathlib.Core.List.{[], _∷_, map}

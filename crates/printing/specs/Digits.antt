@@ -19,7 +19,7 @@ spelt (suc most) x =
 unfoldable pub digits : ℕ → List ℕ
 digits x = spelt (suc x) x
 
--- the last k digits of x as they come out from the left: the one that counts 10 ^ (k - 1) first, and each behind it counts a tenth of that
+-- the last k digits of x as they come out from the left: the first counts 10 ^ (k - 1), each behind it a tenth of what the one before it counts
 unfoldable pub fromLeft : ℕ → ℕ → List ℕ
 fromLeft zero x = []
 fromLeft (suc k) x = glyph (x / 10 ^ k % 10) ∷ fromLeft k x
