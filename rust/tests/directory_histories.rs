@@ -2,10 +2,12 @@
 //! not refused 11 or 12 the answer is graph.rs's; after every call the rows are graph.rs's, and the directory's
 //! entries are those of the map.
 
+mod beside;
 mod common;
 
 use std::collections::HashMap;
 
+use beside::{added_node, may_add};
 use common::{Graph, Random, tables_of};
 use oracle::graph;
 use waterways::{END, EdgeIndex, Network, NodeIndex, Refusal};
@@ -65,10 +67,6 @@ impl Pair {
         }
     }
 
-    fn has(&self, a: u32) -> bool {
-        (a as usize) < self.theirs.node_count()
-    }
-
     /// 12, then 11 where the number stands in a row other than this one.
     fn claim(&mut self, number: u32, row: Option<u32>) -> Result<(), Refusal> {
         if self.cells <= number {
@@ -113,25 +111,16 @@ impl Pair {
 
     fn add_node(&mut self) {
         let w = self.random.weight();
-        let full = self.theirs.node_count() == self.node_rows;
-        let expected = match full {
-            true => Err(Refusal::Full),
-            false => Ok(NodeIndex(self.theirs.add_node(w).0)),
-        };
+        let expected = added_node(&mut self.theirs, self.node_rows, w);
         assert_eq!(self.ours.add_node(w), expected);
     }
 
     /// What an addition is to answer.
     fn added(&mut self, a: u32, b: u32, w: u32) -> Result<EdgeIndex, Refusal> {
-        if self.theirs.edge_count() == self.edge_rows {
-            return Err(Refusal::Full);
-        }
-        if !self.has(a) || !self.has(b) {
-            return Err(Refusal::NoNode);
-        }
+        let (a, b) = (graph::NodeIndex(a), graph::NodeIndex(b));
+        may_add(&self.theirs, self.edge_rows, a, b)?;
         self.claim(w, None)?;
-        let ends = (graph::NodeIndex(a), graph::NodeIndex(b));
-        let e = self.theirs.add_edge(ends.0, ends.1, w);
+        let e = self.theirs.add_edge(a, b, w);
         self.rows.insert(w, e);
         Ok(EdgeIndex(e.0))
     }

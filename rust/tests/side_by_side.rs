@@ -1,7 +1,9 @@
 //! The network beside graph.rs: the same random calls, the same answers, and the same rows after every call.
 
+mod beside;
 mod common;
 
+use beside::{added_node, may_add};
 use common::{Graph, Random, tables_of};
 use oracle::graph;
 use waterways::{EdgeDirection, EdgeIndex, EdgeRemoved, Network, NodeIndex, NodeRemoved, Refusal};
@@ -83,23 +85,13 @@ impl Pair {
 
     fn add_node(&mut self) {
         let w = self.random.weight();
-        let full = self.theirs.node_count() == self.node_rows;
-        let expected = if full {
-            Err(Refusal::Full)
-        } else {
-            Ok(NodeIndex(self.theirs.add_node(w).0))
-        };
+        let expected = added_node(&mut self.theirs, self.node_rows, w);
         assert_eq!(self.ours.add_node(w), expected);
     }
 
-    /// What an addition is to answer; graph.rs has no limits, and panics at a missing node.
+    /// What an addition is to answer.
     fn added(&mut self, a: NodeIndex, b: NodeIndex, w: u32) -> Result<EdgeIndex, Refusal> {
-        if self.theirs.edge_count() == self.edge_rows {
-            return Err(Refusal::Full);
-        }
-        if !self.has(a) || !self.has(b) {
-            return Err(Refusal::NoNode);
-        }
+        may_add(&self.theirs, self.edge_rows, theirs(a), theirs(b))?;
         Ok(edge_of(self.theirs.add_edge(theirs(a), theirs(b), w)))
     }
 

@@ -27,7 +27,8 @@ use Rattle.find.specs.Find.{sought, on, findEdge, containsEdge, updateEdge}
 use Rattle.sound.specs.Sound.{Sound}
 use Rattle.sound.proofs.Exactly.{small}
 use Rattle.original.specs.Std.{assert, panics, asU32, Run, returns, endless, _>>=_, onOption}
-use Rattle.original.specs.Rust.{Node, Pair, Both, One, None, onPair, «index_twice», Graph, findAlong, «find_edge_from_node», «find_edge», «contains_edge», «add_edge», «edge_weight_mut», «update_edge»}
+use Rattle.original.specs.Rust.{Node, Pair, Both, One, None, onPair, «index_twice», Graph, findAlong}
+use Rattle.original.specs.Rust.{«find_edge_from_node», «find_edge», «contains_edge», «add_edge», «edge_weight_mut», «update_edge»}
 use Rattle.alike.specs.Same.{nodeAt, edgeAt, rowsBelow, rowsOf, optionTold, runTold, seen, Ends}
 use Rattle.alike.proofs.Vectors.{length-rows, got, got-past}
 use Rattle.alike.proofs.Cells.{next-at, far-at}

@@ -27,7 +27,8 @@ use Rattle.rows.specs.Calls.{addNode, allEdgeWeights, clear, clearEdges}
 use Rattle.sound.proofs.Kept.{fitOf, first-cell, second-cell, other-cell}
 use Rattle.original.specs.Std.{onOption, _!_, push}
 use Rattle.original.specs.Rust.{Node, Edge, graph, nodeWithNext, edgeWeighing}
-use Rattle.original.specs.Rust.{«node_weight», «edge_weight», «edge_weight_mut», «edge_endpoints», «first_edge», «next_edge», «add_node», «clear_edges», «index_mut_node», «index_mut_edge»}
+use Rattle.original.specs.Rust.{«node_weight», «edge_weight», «edge_weight_mut», «edge_endpoints», «first_edge», «next_edge»}
+use Rattle.original.specs.Rust.{«add_node», «clear_edges», «index_mut_node», «index_mut_edge»}
 use Rattle.original.specs.Rust as Rust
 use Rattle.original.specs.Iterators.{«all_edge_weights»}
 use Rattle.alike.specs.Same.{nodeAt, edgeAt, rowsBelow, rowsOf, optionTold, runTold, valueless, seen}

@@ -41,7 +41,8 @@ give-none table = rw (le-leb 0 (length table) (omega arith))
 no-room : (items : Item → List ℕ) (t : Tables3) → items Number ≡ [] → items Near ≡ [] → items Far ≡ [] → giveThree items t ≡ out (done 0) t
 no-room items t p q r = rw (p, q, r, le-leb 0 (length (t .numbers)) (omega arith), le-leb 0 (length (t .sources)) (omega arith), le-leb 0 (length (t .targets)) (omega arith))
 
-three-alike : (items others : Item → List ℕ) (t : Tables3) → items Number ≡ others Number → items Near ≡ others Near → items Far ≡ others Far → giveThree items t ≡ giveThree others t
+three-alike : (items others : Item → List ℕ) (t : Tables3) → items Number ≡ others Number → items Near ≡ others Near → items Far ≡ others Far
+    → giveThree items t ≡ giveThree others t
 three-alike items others t p q r = rw (p, q, r)
 
 -- a map over two lists one after the other

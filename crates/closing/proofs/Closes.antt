@@ -42,7 +42,8 @@ pub fit-of : {W : List ℤ} {H R L E : List ℕ} {n m a : ℕ} → Closable (net
 fit-of {W} {H} {R} {L} {E} {n} {m} C = fitOf (net W H R L E n m) (C .fit)
 
 -- stripped, then dropped; the code has read the weight w of row `at`
-pub node-taken : (g : Net) (a : ℕ) (I H₁ R₁ L₁ E₁ : List ℕ) (m₁ : ℕ) (given : List ℕ) (rows count at : ℕ) (w : ℤ) (I₁ : List ℕ) (W₂ : List ℤ) (H₂ E₂ : List ℕ) (n₂ more : ℕ)
+pub node-taken : (g : Net) (a : ℕ) (I H₁ R₁ L₁ E₁ : List ℕ) (m₁ : ℕ) (given : List ℕ) (rows count at : ℕ) (w : ℤ)
+    (I₁ : List ℕ) (W₂ : List ℤ) (H₂ E₂ : List ℕ) (n₂ more : ℕ)
     → at ≡ a → w ≡ getD (g .weights) at (pos 0) → strip (net (g .weights) H₁ R₁ L₁ E₁ (g .n) m₁) given rows ≡ stripped g a → count ≡ length given → I₁ ≡ onto given I
     → W₂ ≡ set (set (g .weights) a (getD (g .weights) (g .n - 1) (pos 0))) (g .n - 1) (pos 0)
     → H₂ ≡ headsWith (headsWith H₁ a (nodeRow (net [] H₁ [] [] [] 0 0) (g .n - 1))) (g .n - 1) vacantNode

@@ -66,4 +66,7 @@ module _ (heads links ends : List ℕ) (m a b : ℕ) where
   pub sought-below : {e : EdgeIndex} {j : ℕ} → soughtFrom heads links ends m a b ≡ Row e j → e .0 < m
   unfolding soughtFrom
   sought-below h =
-      ⊎-elim (λ l. l) (λ n. ⊎-elim (λ l. l) (λ z. absurd (let y : _≡_ {A = ℕ} 0 1 = cc in omega arith)) (list-below 1 Missing n)) (list-below 0 (searched heads links ends m a b 1 Missing) h)
+      ⊎-elim
+      (λ l. l)
+      (λ n. ⊎-elim (λ l. l) (λ z. absurd (let y : _≡_ {A = ℕ} 0 1 = cc in omega arith)) (list-below 1 Missing n))
+      (list-below 0 (searched heads links ends m a b 1 Missing) h)

@@ -172,7 +172,8 @@ module _ (n k a : ℕ) (H₀ R₀ L₀ E₀ : List ℕ) (m₀ : ℕ) (I₀ : Lis
       one-out ws T = rw (← is T, append-assoc ws (t .new) (w ∷ []))
 
       goes-on-so : (F : ℕ) (ws : List ℕ) (T : List ℤ) → m₀ ≤ F
-          → emptied (F - (m₀ - m′)) k a (strip (net T H′ R′ L′ E′ n m′) (ws ++ (t .new ++ (w ∷ []))) (rows + read)) ≡ emptied F k a (strip (net T H₀ R₀ L₀ E₀ n m₀) ws rows₀)
+          → emptied (F - (m₀ - m′)) k a (strip (net T H′ R′ L′ E′ n m′) (ws ++ (t .new ++ (w ∷ []))) (rows + read))
+          ≡ emptied F k a (strip (net T H₀ R₀ L₀ E₀ n m₀) ws rows₀)
       goes-on-so F ws T l =
           let z : F - (m₀ - m) ≡ suc (F - (m₀ - m′)) = omega (arith, fewer-by-one, edge, t .fewer) in
           ap (emptied (F - (m₀ - m′)) k a) (sym (one-out ws T))

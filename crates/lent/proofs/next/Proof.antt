@@ -113,7 +113,8 @@ module _ {M : Type 1} (𝓤 : URA M) (H : Heap 𝓤) (A : Atoms 𝓤) (W : Given
   Copies [] = Unit {1}
   Copies (T ∷ Ts) = Copy 𝓤 H A T × Copies Ts
 
-  owned-twice : (Ts : List RattleType) → Copies Ts → (a : Denots Ts) (vss : Valss Ts) → ent 𝓤 (sem 𝓤 H A (owns Ts a vss)) (sep 𝓤 (sem 𝓤 H A (owns Ts a vss)) (sem 𝓤 H A (owns Ts a vss)))
+  owned-twice : (Ts : List RattleType) → Copies Ts → (a : Denots Ts) (vss : Valss Ts)
+      → ent 𝓤 (sem 𝓤 H A (owns Ts a vss)) (sep 𝓤 (sem 𝓤 H A (owns Ts a vss)) (sem 𝓤 H A (owns Ts a vss)))
   owned-twice [] cs a vss = qed W (‵ ftrue ∷ []) ∵ frame ! $ nothing ! $ done !
   owned-twice (T ∷ Ts) cs a vss =
       let one : Fml = T .own (a .0) (vss .0) in
@@ -214,7 +215,8 @@ module _ {M : Type 1} (𝓤 : URA M) (H : Heap 𝓤) (A : Atoms 𝓤) (W : Given
 
   -- the walker of `advance` stands behind the reference, and its answer is returned
   exits : (r : Moved) (vs : List Val) → Is Mv.the-row r vs → Stepped c h r
-      → ent 𝓤 (⋆ 𝓤 H A (‵ (fobs γ (R .coded .code (r .walker))) ∷ ‵ (fbor κ (Body (mem R) b o γ)) ∷ ‵ (flft κ q) ∷ Tokens ∷ ‵ Rest ∷ [])) (Post (S′.lowered (r .answer)))
+      → ent 𝓤 (⋆ 𝓤 H A (‵ (fobs γ (R .coded .code (r .walker))) ∷ ‵ (fbor κ (Body (mem R) b o γ)) ∷ ‵ (flft κ q) ∷ Tokens ∷ ‵ Rest ∷ []))
+      (Post (S′.lowered (r .answer)))
   exits r vs is e =
       qed W (‵ (fobs γ (R .coded .code (r .walker))) ∷ ‵ (fbor κ (Body (mem R) b o γ)) ∷ ‵ (flft κ q) ∷ Tokens ∷ ‵ Rest ∷ []) ∵
       suffices ! _ (ends-at 𝓤 H A next.ended stayed (next.clauses 𝓤 H A at-mem run) W (((κ, κs), (q, qs), tt, x, (vptr b o ∷ [], cvals .1)), tt)
@@ -225,7 +227,8 @@ module _ {M : Type 1} (𝓤 : URA M) (H : Heap 𝓤) (A : Atoms 𝓤) (W : Given
   module _ (C : Calls 𝓤 H) (Λ : Loops 𝓤 H) (fm : FmC 𝓤 H (W .laws) C) (known : Triple 𝓤 (C key-advance) (Advance 𝓤 H A at-mem run)) where
     walk : Is (ShrSlice (named 1) (κs .0) i32) (c .0) (slice-vals (c .0)) → Is (ShrSlice (named 2) (κs .1 .0) u32) (c .1 .0) (slice-vals (c .1 .0))
         → Is (ShrSlice (named 3) (κs .1 .1 .0) u32) (c .1 .1 .0) (slice-vals (c .1 .1 .0))
-        → Is (ShrSlice (named 4) (κs .1 .1 .1 .0) u32) (c .1 .1 .1 .0) (slice-vals (c .1 .1 .1 .0)) → Is (ShrSlice (named 5) (κs .1 .1 .1 .1 .0) u32) (c .1 .1 .1 .1 .0) (slice-vals (c .1 .1 .1 .1 .0))
+        → Is (ShrSlice (named 4) (κs .1 .1 .1 .0) u32) (c .1 .1 .1 .0) (slice-vals (c .1 .1 .1 .0))
+        → Is (ShrSlice (named 5) (κs .1 .1 .1 .1 .0) u32) (c .1 .1 .1 .1 .0) (slice-vals (c .1 .1 .1 .1 .0))
         → c .1 .1 .1 .1 .1 .0 < 2 ^ 32 → c .1 .1 .1 .1 .1 .1 .0 < 2 ^ 32
         → ent 𝓤 (onEntry 𝓤 H A next.signature (κ, κs) (q, qs) x (vptr b o ∷ [], cvals .1)) (WpFn 𝓤 H C Λ code.function
         (vptr b o ∷ only (slice-vals (c .0)) ∷ only (slice-vals (c .1 .0)) ∷ only (slice-vals (c .1 .1 .0))
@@ -266,7 +269,8 @@ module _ {M : Type 1} (𝓤 : URA M) (H : Heap 𝓤) (A : Atoms 𝓤) (W : Given
         (from ! (stop !)) (init ! 26 refl (EL.lawful S.the-type S′.the-laws 𝓤 H A W tt .typed (r .answer) _ (answer-is r _ is) .0)) $
         -- the borrow is closed at the walker that `advance` gave
         move ! (2 ∷ []) $ use1 W (‵ (cellAt fullShare (R .mir) (T′.lowered (r .walker) ∷ []) b o)) (W .laws .at-raw fullShare T′.mir b o (T′.lowered (r .walker))) $
-        owned ! R (Is R) (LL.makes T.the-type T′.the-plain 𝓤 H A) (r .walker) _ (walker-is r _ is) $ move ! (1 ∷ 0 ∷ 4 ∷ 5 ∷ 6 ∷ []) $ closes ! tt R (r .walker) (T′.lowered (r .walker) ∷ []) b o $
+        owned ! R (Is R) (LL.makes T.the-type T′.the-plain 𝓤 H A) (r .walker) _ (walker-is r _ is) $
+        move ! (1 ∷ 0 ∷ 4 ∷ 5 ∷ 6 ∷ []) $ closes ! tt R (r .walker) (T′.lowered (r .walker) ∷ []) b o $
         -- [obs; the borrow; its token; the columns' tokens; Rest; _10; …]
         returns ! (look ! 25 refl) $
         forget ! 5 refl $ forget ! 7 refl $ forget ! 9 refl $ forget ! 11 refl $ forget ! 13 refl $ forget ! 15 refl $
@@ -298,7 +302,8 @@ module _ {M : Type 1} (𝓤 : URA M) (H : Heap 𝓤) (A : Atoms 𝓤) (W : Given
           ),
         ),
       ))
-      (λ κs qs bounds a g are. via 𝓤 _ (fst∗ 𝓤 _ (emp 𝓤)) (walk 𝓤 H A W mem run (κs .0) (κs .1) (qs .0) (qs .1) (a .0 .ptr .0) (a .0 .ptr .1) (a .0 .name) (a .0 .now) (a .1) C Λ fm known
+      (λ κs qs bounds a g are. via 𝓤 _ (fst∗ 𝓤 _ (emp 𝓤)) (walk 𝓤 H A W mem run (κs .0) (κs .1) (qs .0) (qs .1)
+      (a .0 .ptr .0) (a .0 .ptr .1) (a .0 .name) (a .0 .now) (a .1) C Λ fm known
       (are .1 .0) (are .1 .1 .0) (are .1 .1 .1 .0) (are .1 .1 .1 .1 .0) (are .1 .1 .1 .1 .1 .0) (are .1 .1 .1 .1 .1 .1 .0 .1) (are .1 .1 .1 .1 .1 .1 .1 .0 .1)))
 
 next-meets : {M : Type 1} (𝓤 : URA M) (H : Heap 𝓤) (A : Atoms 𝓤) (W : Given 𝓤 H A) (mem : Memory → SProp 𝓤) (run : Routine → Fun 𝓤) (𝓣 : Tables 𝓤 H)

@@ -30,11 +30,11 @@ record Looping (script out₀ : List ℕ) (limit : ℕ) (weights₀ : List ℤ) 
   targets-long : length targets ≡ length targets₀
 
 abbrev Inv-loop : tie.InvT-loop
-Inv-loop script out₀ limit weights₀ heads₀ registers₀ links₀ ends₀ n₀ m₀ items₀ sources₀ targets₀ at₀ to₀ out weights heads registers links ends n m items sources targets at to =
+Inv-loop script out₀ limit weights₀ heads₀ registers₀ links₀ ends₀ n₀ m₀ items₀ sources₀ targets₀ _ _ out weights heads registers links ends n m items sources targets at to =
     Looping script out₀ limit weights₀ heads₀ registers₀ links₀ ends₀ n₀ m₀ items₀ sources₀ targets₀ out weights heads registers links ends n m items sources targets at to
 
 abbrev μ-loop : tie.MeasureT-loop
-μ-loop script out₀ limit weights₀ heads₀ registers₀ links₀ ends₀ n₀ m₀ items₀ sources₀ targets₀ at₀ to₀ out weights heads registers links ends n m items sources targets at to =
+μ-loop script out₀ limit weights₀ heads₀ registers₀ links₀ ends₀ n₀ m₀ items₀ sources₀ targets₀ _ _ out weights heads registers links ends n m items sources targets at to =
     length script - at
 
 loop-holds : tie.Need-loop-holds Inv-loop μ-loop
