@@ -55,8 +55,8 @@ enum net_answer {
     NET_NOT_COMMAND = 10, /* a script line that is no command */
     NET_TAKEN = 11,       /* the directory's entry of that register number names a row */
     NET_BEYOND = 12,      /* a register number that is not below the directory's length */
-    NET_NOT_BARE = 13,    /* a node to be dropped that still has edges */
     /* No call gives these yet. */
+    NET_NOT_BARE = 13,    /* a node to be dropped that still has edges */
     NET_NO_RANKING = 14,  /* lists that no ranking of the edges gives */
     NET_OUTSIDE = 15,     /* outside the planning profile */
     NET_TOO_DEEP = 16,    /* a walk that would stand 65 nodes deep */
@@ -272,32 +272,14 @@ uint32_t net_remove_edge(
     uint32_t *ends, size_t ends_len, uint32_t n, uint32_t *m, uint32_t e, uint32_t *weight, uint32_t *moved,
     uint32_t *rows);
 
-/* Takes out node a with its edges; the last node takes its place: net_strip_node, then net_drop_node, checked
-   once. Its weight, the rows read by both, and how many edge weights stand in items. Only a sound network is
-   changed. Checks the whole network first, 2 m rows; counts the d edges; then reads the rows that it tells,
-   at most 3 d (D - 1) + 2 D. Refused 1, 3, 6, 7. */
+/* Takes out node a with its edges; the last node takes its place. Its weight, the rows read, and how many
+   edge weights stand in items. Only a sound network is changed. Checks the whole network first, 2 m rows;
+   counts the d edges; then reads the rows that it tells, at most 3 d (D - 1) + 2 D. Refused 1, 3, 6, 7. */
 uint32_t net_remove_node(
     int32_t *weights, size_t weights_len, uint32_t *heads, size_t heads_len,
     uint32_t *registers, size_t registers_len, uint32_t *links, size_t links_len,
     uint32_t *ends, size_t ends_len, uint32_t *n, uint32_t *m, uint32_t a, uint32_t *items, size_t items_len,
     int32_t *weight, uint64_t *rows, uint32_t *count);
-
-/* Takes out all edges of node a, which stays. The rows read, and how many edge weights stand in items, in the
-   order of net_edge_weights. Only a sound network is changed. Checks the whole network first, 2 m rows;
-   counts the d edges; then reads the rows that it tells, at most 3 d (D - 1). Refused 1, 3, 6, 7. */
-uint32_t net_strip_node(
-    const int32_t *weights, size_t weights_len, uint32_t *heads, size_t heads_len,
-    uint32_t *registers, size_t registers_len, uint32_t *links, size_t links_len,
-    uint32_t *ends, size_t ends_len, uint32_t n, uint32_t *m, uint32_t a, uint32_t *items, size_t items_len,
-    uint64_t *rows, uint32_t *count);
-
-/* Takes out node a, which has no edges; the last node takes its place. Its weight, and the rows read: those
-   of both lists of the node that moves, which get its new number. Only a sound network is changed. Checks the
-   whole network first, 2 m rows; then reads the rows that it tells, at most 2 D. Refused 1, 3, 6, 13. */
-uint32_t net_drop_node(
-    int32_t *weights, size_t weights_len, uint32_t *heads, size_t heads_len,
-    const uint32_t *registers, size_t registers_len, const uint32_t *links, size_t links_len,
-    uint32_t *ends, size_t ends_len, uint32_t *n, uint32_t m, uint32_t a, int32_t *weight, uint32_t *rows);
 
 /* The image of a sound network at the front of bytes; its length, 13 + 12 n + 20 m. Checks the whole network
    first, 2 m rows, then reads each row once. Refused 1, 6, 7. */
@@ -369,22 +351,6 @@ uint32_t net_dir_remove_node(
     uint32_t *registers, size_t registers_len, uint32_t *links, size_t links_len,
     uint32_t *ends, size_t ends_len, uint32_t *n, uint32_t *m, uint32_t *directory, size_t directory_len,
     uint32_t a, uint32_t *items, size_t items_len, int32_t *weight, uint64_t *rows, uint32_t *count);
-
-/* As net_strip_node; the directory follows every row that goes or moves. 6, and what is read for it, as in
-   net_dir_remove_node. Refused 1, 3, 6, 7. */
-uint32_t net_dir_strip_node(
-    const int32_t *weights, size_t weights_len, uint32_t *heads, size_t heads_len,
-    uint32_t *registers, size_t registers_len, uint32_t *links, size_t links_len,
-    uint32_t *ends, size_t ends_len, uint32_t n, uint32_t *m, uint32_t *directory, size_t directory_len,
-    uint32_t a, uint32_t *items, size_t items_len, uint64_t *rows, uint32_t *count);
-
-/* As net_drop_node; no entry changes, since no edge row moves. 6, and what is read for it, as in
-   net_dir_remove_node. Refused 1, 3, 6, 13. */
-uint32_t net_dir_drop_node(
-    int32_t *weights, size_t weights_len, uint32_t *heads, size_t heads_len,
-    const uint32_t *registers, size_t registers_len, const uint32_t *links, size_t links_len,
-    uint32_t *ends, size_t ends_len, uint32_t *n, uint32_t m, const uint32_t *directory,
-    size_t directory_len, uint32_t a, int32_t *weight, uint32_t *rows);
 
 /* As net_clear_edges; every cell of the directory becomes NET_END. Reads no edge row. Refused 1. */
 uint32_t net_dir_clear_edges(

@@ -37,7 +37,7 @@ pub enum Shape {
 /// The hubs are the first nodes.
 pub const HUBS: u32 = 8;
 
-/// The nodes that are taken out or stripped, at every size.
+/// The nodes that are taken out, at every size.
 pub const NODES_OUT: usize = 64;
 
 pub struct Input {
@@ -52,8 +52,6 @@ pub struct Input {
     pub hub_out: Vec<u32>,
     /// Nodes to take out, by their numbers then: where there are hubs, these first.
     pub nodes_out: Vec<u32>,
-    /// Nodes to strip, each once: as many, and where there are hubs, these first.
-    pub strip: Vec<u32>,
     /// Register numbers to look for: about every other one is an edge's, where edges bear different ones.
     pub asked: Vec<u32>,
     /// The register numbers of all edges, in any order.
@@ -70,7 +68,6 @@ impl Input {
             all_out: (1..=size.edges).rev().map(|m| random.below(m)).collect(),
             hub_out: hub_out(&edges, random),
             nodes_out: nodes_out(size, shape, random),
-            strip: strip(size, shape, random),
             asked: Vec::new(),
             numbers_out: Vec::new(),
             edges,
@@ -144,20 +141,8 @@ fn hub_out(edges: &[[u32; 3]], random: &mut Random) -> Vec<u32> {
     numbers
 }
 
-/// The hubs that a network of this shape has.
-fn hubs(shape: Shape) -> u32 {
-    if shape == Shape::Hubs { HUBS } else { 0 }
-}
-
-fn strip(size: Size, shape: Shape, random: &mut Random) -> Vec<u32> {
-    let hubs = hubs(shape);
-    let others = shuffled(size.nodes, random).into_iter();
-    let others = others.filter(|&a| a >= hubs);
-    (0..hubs).chain(others).take(NODES_OUT).collect()
-}
-
 fn nodes_out(size: Size, shape: Shape, random: &mut Random) -> Vec<u32> {
-    let hubs = hubs(shape);
+    let hubs = if shape == Shape::Hubs { HUBS } else { 0 };
     let left = (1..=size.nodes).rev().zip(0..NODES_OUT as u32);
     left.map(|(n, k)| if k < hubs { k } else { random.below(n) })
         .collect()

@@ -13,12 +13,6 @@ pub fn stir(sum: u64, answer: u64) -> u64 {
     sum.rotate_left(5) ^ answer
 }
 
-/// Stirs in how many items there are, and each of them.
-fn stir_all(sum: u64, items: &[u32]) -> u64 {
-    let counted = stir(sum, items.len() as u64);
-    items.iter().fold(counted, |sum, &x| stir(sum, x.into()))
-}
-
 /// What there is to tell of an edge: its number, or 5 where there is none, as the proved library has it.
 fn told(edge: u32) -> u64 {
     if edge == END { 5 } else { edge.into() }
@@ -43,28 +37,6 @@ pub trait Side {
     fn remove_edge(&mut self, e: u32) -> u32;
     /// Its weight; those of its edges go to `items` where the side has them.
     fn remove_node(&mut self, a: u32, items: &mut [u32]) -> i32;
-
-    /// Takes out all edges of a node, the first outgoing one till there is none, then the first incoming one: how
-    /// many. Their weights go to `items`.
-    fn strip_by_edges(&mut self, a: u32, items: &mut [u32]) -> usize {
-        let mut count = 0;
-        for k in [0, 1] {
-            loop {
-                let head = self.first_edge(a, k);
-                if head == END {
-                    break;
-                }
-                items[count] = self.remove_edge(head);
-                count += 1;
-            }
-        }
-        count
-    }
-
-    /// The same by the side's own call, where it has one.
-    fn strip_node(&mut self, a: u32, items: &mut [u32]) -> usize {
-        self.strip_by_edges(a, items)
-    }
 
     /// The length of the image; `None` where the side has no images.
     fn image_write(&self, _bytes: &mut [u8]) -> Option<usize> {
@@ -154,7 +126,8 @@ pub trait Side {
     fn walk_all(&self, items: &mut [u32]) -> u64 {
         (0..self.counts()[0] as u32).fold(0, |sum, a| {
             let count = self.neighbors_into(a, items);
-            stir_all(sum, &items[..count])
+            let met = items[..count].iter();
+            met.fold(stir(sum, count as u64), |sum, &b| stir(sum, b.into()))
         })
     }
 
@@ -178,19 +151,19 @@ pub trait Side {
         removed.fold(0, |sum, moved| stir(sum, moved.into()))
     }
 
-    /// All edges of the hubs, one by one: what the removal of a node does before the node goes.
-    fn strip_hubs(&mut self, items: &mut [u32]) -> u64 {
-        (0..HUBS).fold(0, |sum, a| {
-            let count = self.strip_by_edges(a, items);
-            stir_all(sum, &items[..count])
-        })
-    }
-
-    fn strip_nodes(&mut self, numbers: &[u32], items: &mut [u32]) -> u64 {
-        numbers.iter().fold(0, |sum, &a| {
-            let count = self.strip_node(a, items);
-            stir_all(sum, &items[..count])
-        })
+    /// Takes out all edges of the hubs, head first: what the removal of a node does before the node goes.
+    fn strip_hubs(&mut self) -> u64 {
+        let mut sum = 0;
+        for (a, k) in (0..HUBS).flat_map(|a| [(a, 0), (a, 1)]) {
+            loop {
+                let head = self.first_edge(a, k);
+                if head == END {
+                    break;
+                }
+                sum = stir(sum, self.remove_edge(head).into());
+            }
+        }
+        sum
     }
 
     fn remove_nodes(&mut self, numbers: &[u32], items: &mut [u32]) -> u64 {

@@ -93,10 +93,6 @@ impl Side for Ours {
         removed.expect(SERVED).0.weight
     }
 
-    fn strip_node(&mut self, a: u32, items: &mut [u32]) -> usize {
-        self.0.strip_node_into(NodeIndex(a), items).expect(SERVED).1
-    }
-
     fn image_write(&self, bytes: &mut [u8]) -> Option<usize> {
         self.0.image_write_into(bytes).ok()
     }

@@ -20,7 +20,6 @@ pub enum Work {
     AllEdgesByCalls,
     HubEdgesByCalls,
     StripHubs,
-    StripNodes,
     Nodes,
     BuildFiled,
     FindNumbers,
@@ -38,7 +37,7 @@ use Shape::{Even, Hubs};
 
 /// Every work with its name and the shapes that it is done on. One on a network has its loop inside the library, unless it is named
 /// 'by calls' or is an image's.
-pub const WORKS: [(Work, &str, &[Shape]); 24] = [
+pub const WORKS: [(Work, &str, &[Shape]); 23] = [
     (Work::Build, "build", &[Even, Hubs]),
     (Work::Find, "find", &[Even, Hubs]),
     (Work::Walk, "walk all neighbours", &[Even, Hubs]),
@@ -67,7 +66,6 @@ pub const WORKS: [(Work, &str, &[Shape]); 24] = [
         &[Hubs],
     ),
     (Work::StripHubs, "strip hubs, by calls", &[Hubs]),
-    (Work::StripNodes, "strip nodes, by calls", &[Even, Hubs]),
     (Work::Nodes, "take out nodes, by calls", &[Even, Hubs]),
     (Work::BuildFiled, "build with a directory", &[Even, Hubs]),
     (Work::FindNumbers, "find by number", &[Even]),
@@ -207,7 +205,7 @@ impl Task {
             Work::TakeDown | Work::TakeDownByCalls => edges.len(),
             Work::HubEdges | Work::HubEdgesByCalls => self.input.hub_out.len(),
             Work::StripHubs => edges.iter().filter(|e| e[0].min(e[1]) < HUBS).count(),
-            Work::StripNodes | Work::Nodes => NODES_OUT,
+            Work::Nodes => NODES_OUT,
             Work::ImageWrite | Work::ImageRead => 13 + 12 * nodes + 20 * edges.len(),
             Work::AlikeScripts | Work::Scripts => self.scripts.iter().map(Vec::len).sum(),
         }
@@ -256,8 +254,7 @@ pub fn timed_part(task: &Task, side: &mut dyn Side, room: &mut Room) -> Option<u
         Work::SumByCalls => side.sum_all(),
         Work::AllEdgesByCalls => side.remove_edges(&input.all_out),
         Work::HubEdgesByCalls => side.remove_edges(&input.hub_out),
-        Work::StripHubs => side.strip_hubs(&mut room.items),
-        Work::StripNodes => side.strip_nodes(&input.strip, &mut room.items),
+        Work::StripHubs => side.strip_hubs(),
         Work::Nodes => side.remove_nodes(&input.nodes_out, &mut room.items),
         Work::ImageWrite => side.image_write(&mut room.image)? as u64,
         Work::ImageRead => side.image_read(&room.image)? as u64,

@@ -12,7 +12,6 @@ from waterways import (
     Network,
     NoEdge,
     NoNode,
-    NotBare,
     Nothing,
     NotImage,
     Refused,
@@ -81,8 +80,6 @@ class NetworkA(unittest.TestCase):
         self.refused(Nothing, network.next_edge, 1, OUT)
         self.refused(NoEdge, network.remove_edge, 4)
         self.refused(NoNode, network.remove_node, 3)
-        self.refused(NoNode, network.strip_node, 3)
-        self.refused(NoNode, network.drop_node, 3)
         why = self.refused(NoNode, network.sum_around, 3)
         self.assertEqual((why.number, str(why)), (3, "refused 3: the named node is not there"))
 
@@ -149,26 +146,6 @@ class NetworkA(unittest.TestCase):
         removed = network_a().remove_node_with(2, given.append)
         self.assertEqual((removed.weight, removed.rows, given), (8, 1, [12, 11]))
 
-    def test_a_node_is_stripped_and_dropped(self):
-        network = self.network
-        for a in range(3):
-            self.refused(NotBare, network.drop_node, a)
-        self.assertEqual(network.strip_node(1), (2, [13, 11, 10]))
-        self.assertEqual((network.node_weight(1), network.neighbors(1), network.edge_count()), (-3, [], 1))
-        self.assertEqual(network.strip_node(1), (0, []))
-        self.refused(NotBare, network.drop_node, 2)
-        self.assertEqual(network.drop_node(1), (-3, 1))
-        self.assertEqual((network.node_weight(1), network.edge_endpoints(0)), (8, (0, 1)))
-        self.assertEqual(network.check(), 2)
-
-    def test_stripped_and_dropped_is_removed(self):
-        for a in range(3):
-            network, apart = network_a(), network_a()
-            removed = network.remove_node(a)
-            (rows, weights), (weight, read) = apart.strip_node(a), apart.drop_node(a)
-            self.assertEqual((weight, rows + read, weights), removed)
-            self.assertEqual(apart, network)
-
     def test_more_items_than_a_table_has_at_first(self):
         network = Network(200, 400)
         for total in range(200):
@@ -177,11 +154,8 @@ class NetworkA(unittest.TestCase):
             network.add_edge(7, b, b)
         self.assertEqual(network.neighbors(7), list(range(199, -1, -1)))
         self.assertEqual(network.edges(7)[0], (199, 7, 199))
-        again = Network.from_tables(network.tables())
         self.assertEqual(network.remove_node(7).edge_weights, list(range(199, -1, -1)))
         self.assertEqual((network.node_count(), network.edge_count()), (199, 0))
-        self.assertEqual(again.strip_node(7).edge_weights, list(range(199, -1, -1)))
-        self.assertEqual((again.node_count(), again.edge_count()), (200, 0))
 
     def test_clears(self):
         network = self.network
@@ -203,8 +177,6 @@ class Damaged(unittest.TestCase):
             (network.sum_around, (0,)),
             (network.update_edge, (0, 0, 1)),
             (network.remove_node, (0,)),
-            (network.strip_node, (0,)),
-            (network.drop_node, (0,)),
             (network.image_write, ()),
         ):
             before = network.tables()
@@ -236,8 +208,6 @@ class Damaged(unittest.TestCase):
                 (network.walker, (0,)),
                 (network.all_edge_weights, ()),
                 (network.image_read, (b"WNT",)),
-                (network.strip_node, (9,)),
-                (network.drop_node, (9,)),
                 (network.clear, ()),
             ):
                 with self.assertRaises(Tables):
@@ -302,18 +272,6 @@ class Directory(unittest.TestCase):
         network.clear()
         self.assertEqual(network, Network(3, 5, 20))
 
-    def test_it_follows_a_strip_and_stays_at_a_drop(self):
-        network = self.network
-        self.refused(NotBare, network.drop_node, 0)
-        self.assertEqual(network.strip_node(0), (1, [12, 10]))
-        self.assertEqual(self.entries(), {11: 1, 13: 0})
-        self.assertEqual(network.drop_node(0), (5, 1))
-        self.assertEqual(self.entries(), {11: 1, 13: 0})
-        self.assertEqual(network.check(), 4)
-        removed = network_a(3, 5, 20)
-        removed.remove_node(0)
-        self.assertEqual(network, removed)
-
     def test_a_wrong_one(self):
         rows, cells = self.network.tables(), self.network.directory()
         for r, e in (10, END), (10, 1), (7, 0), (7, 4):
@@ -321,11 +279,9 @@ class Directory(unittest.TestCase):
             with self.assertRaises(Broken) as caught:
                 wrong.check()
             self.assertEqual((caught.exception.direction, caught.exception.node), (IN, 4))
-            for call in wrong.remove_node, wrong.strip_node, wrong.drop_node:
+            for call, arguments in (wrong.remove_node, (0,)), (wrong.image_write, ()):
                 with self.assertRaises(Broken):
-                    call(0)
-            with self.assertRaises(Broken):
-                wrong.image_write()
+                    call(*arguments)
         wrong = Network.from_tables(rows, cells[:13] + [0] + cells[14:])
         for call, number in (wrong.remove_edge, 0), (wrong.remove_number, 10), (wrong.find_number, 13):
             with self.assertRaises(Broken):

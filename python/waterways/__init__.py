@@ -12,16 +12,6 @@
     Traceback (most recent call last):
     waterways.refusals.NoNode: refused 3: the named node is not there
 
-A catchment is closed by taking out its waterways, and its node goes in a second call:
-
-    >>> network.drop_node(0)
-    Traceback (most recent call last):
-    waterways.refusals.NotBare: refused 13: a node to be dropped that still has edges
-    >>> network.strip_node(0)
-    NodeStripped(rows=0, edge_weights=[10])
-    >>> network.drop_node(0)
-    NodeDropped(weight=5, rows=0)
-
 With a directory of 500 cells, waterways are known by their register numbers below 500, too:
 
     >>> network = Network(directory=500)
@@ -44,9 +34,7 @@ from .network import (
     EdgeReference,
     EdgeRemoved,
     Network,
-    NodeDropped,
     NodeRemoved,
-    NodeStripped,
     Rows,
     Walker,
 )

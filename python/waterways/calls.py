@@ -48,8 +48,6 @@ walker_new        n m    a walker                       ->
 walker_next       n m    walker                         -> neighbor
 remove_edge       n &m   e                              -> weight moved rows
 remove_node       &n &m  a [items]                      -> weight:i32 rows:u64 count
-strip_node        n &m   a [items]                      -> rows:u64 count
-drop_node         &n m   a                              -> weight:i32 rows
 image_write       n m    [bytes:u8]                     -> length
 image_read        &n &m  (bytes:u8)                     ->
 dir_check           n m    directory                    -> rows direction node
@@ -58,8 +56,6 @@ dir_update_edge     n &m   directory a b w              -> edge
 dir_set_edge_weight n m    directory e w                ->
 dir_remove_edge     n &m   directory e                  -> weight moved rows
 dir_remove_node     &n &m  directory a [items]          -> weight:i32 rows:u64 count
-dir_strip_node      n &m   directory a [items]          -> rows:u64 count
-dir_drop_node       &n m   directory a                  -> weight:i32 rows
 dir_clear_edges     n &m   directory                    ->
 dir_clear           &n &m  directory                    ->
 dir_image_write     n m    directory [bytes:u8]         -> length

@@ -48,23 +48,6 @@ class NodeRemoved(NamedTuple):
     """The register numbers of its edges, in the order of `Network.edge_weights`."""
 
 
-class NodeStripped(NamedTuple):
-    """A node whose edges were taken out."""
-
-    rows: int
-    """The edge rows read, those of the check aside."""
-    edge_weights: list[int]
-    """The register numbers of its edges, in the order of `Network.edge_weights`."""
-
-
-class NodeDropped(NamedTuple):
-    """A node without edges that was taken out."""
-
-    weight: int
-    rows: int
-    """The edge rows read, those of the check aside: both lists of the node that took its place."""
-
-
 class EdgeReference(NamedTuple):
     """An edge as a walk meets it: from the node where it started."""
 
@@ -318,10 +301,7 @@ class Network:
         return _removed(*self._ask("dir_remove_number", r))
 
     def remove_node(self, a: int) -> NodeRemoved:
-        """Takes out a node with its edges; the last node takes its place. Refused NoNode, Broken.
-
-        It is `strip_node`, then `drop_node`.
-        """
+        """Takes out a node with its edges; the last node takes its place. Refused NoNode, Broken."""
         (weight, rows, _), (weights,) = self._grown("remove_node", 1, a)
         return NodeRemoved(weight, rows, weights)
 
@@ -331,15 +311,6 @@ class Network:
         for weight in removed.edge_weights:
             edge_callback(weight)
         return removed
-
-    def strip_node(self, a: int) -> NodeStripped:
-        """Takes out all edges of a node, which stays: a catchment closed. Refused NoNode, Broken."""
-        (rows, _), (weights,) = self._grown("strip_node", 1, a)
-        return NodeStripped(rows, weights)
-
-    def drop_node(self, a: int) -> NodeDropped:
-        """Takes out a node without edges; the last node takes its place. Refused NoNode, Broken, NotBare."""
-        return NodeDropped(*self._ask("drop_node", a))
 
     # Images
 

@@ -72,11 +72,11 @@ class Beyond(Refused):
     number, meaning = 12, "a register number that is not below the directory's length"
 
 
+# No call gives these yet.
+
+
 class NotBare(Refused):
     number, meaning = 13, "a node to be dropped that still has edges"
-
-
-# No call gives these yet.
 
 
 class NoRanking(Refused):

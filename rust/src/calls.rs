@@ -75,10 +75,6 @@ calls! { mut:
         items: *mut u32, items_len: usize,
         weight: *mut i32, rows: *mut u64, count: *mut u32
     );
-    fn net_strip_node(
-        n: u32, m: *mut u32, a: u32, items: *mut u32, items_len: usize, rows: *mut u64, count: *mut u32
-    );
-    fn net_drop_node(n: *mut u32, m: u32, a: u32, weight: *mut i32, rows: *mut u32);
     fn net_image_read(n: *mut u32, m: *mut u32, bytes: *const u8, bytes_len: usize);
     fn net_dir_add_edge(
         n: u32, m: *mut u32, directory: *mut u32, directory_len: usize, a: u32, b: u32, w: u32, edge: *mut u32
@@ -95,14 +91,6 @@ calls! { mut:
         n: *mut u32, m: *mut u32, directory: *mut u32, directory_len: usize, a: u32,
         items: *mut u32, items_len: usize,
         weight: *mut i32, rows: *mut u64, count: *mut u32
-    );
-    fn net_dir_strip_node(
-        n: u32, m: *mut u32, directory: *mut u32, directory_len: usize, a: u32,
-        items: *mut u32, items_len: usize, rows: *mut u64, count: *mut u32
-    );
-    fn net_dir_drop_node(
-        n: *mut u32, m: u32, directory: *const u32, directory_len: usize,
-        a: u32, weight: *mut i32, rows: *mut u32
     );
     fn net_dir_clear_edges(n: u32, m: *mut u32, directory: *mut u32, directory_len: usize);
     fn net_dir_clear(n: *mut u32, m: *mut u32, directory: *mut u32, directory_len: usize);

@@ -9,9 +9,7 @@ mod calls;
 mod network;
 mod refusal;
 
-pub use network::{
-    EdgeRemoved, Fault, Network, NodeDropped, NodeRemoved, NodeStripped, Tables, Walker,
-};
+pub use network::{EdgeRemoved, Fault, Network, NodeRemoved, Tables, Walker};
 pub use refusal::Refusal;
 
 /// The number of a node row.

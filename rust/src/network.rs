@@ -41,23 +41,6 @@ pub struct NodeRemoved {
     pub rows: u64,
 }
 
-/// A node whose edges were taken out.
-#[derive(Clone, Debug, PartialEq, Eq)]
-pub struct NodeStripped {
-    /// The edge rows read, those of the check aside.
-    pub rows: u64,
-    /// The weights of its edges, in the order of [`Network::edge_weights`].
-    pub edge_weights: Vec<u32>,
-}
-
-/// A node without edges that was taken out.
-#[derive(Clone, Copy, Debug, PartialEq, Eq)]
-pub struct NodeDropped {
-    pub weight: i32,
-    /// The edge rows read, those of the check aside: both lists of the node that took its place.
-    pub rows: u32,
-}
-
 /// Where a network is not sound.
 #[derive(Clone, Copy, Debug, PartialEq, Eq)]
 pub enum Fault {
@@ -516,8 +499,7 @@ impl Network {
         })
     }
 
-    /// Takes out a node with its edges, whose weights go to `edge_callback`; the last node takes its place:
-    /// [`Network::strip_node`], then [`Network::drop_node`].
+    /// Takes out a node with its edges, whose weights go to `edge_callback`; the last node takes its place.
     pub fn remove_node_with<F>(
         &mut self,
         a: NodeIndex,
@@ -555,72 +537,6 @@ impl Network {
             )
         })?;
         Ok((NodeRemoved { weight, rows }, count))
-    }
-
-    /// Takes out all edges of a node, which stays: a catchment closed, whose number and total are kept. Refused
-    /// [`Refusal::Broken`] where the network, with its directory, is not sound.
-    ///
-    /// ```
-    /// # use waterways::{Network, Refusal};
-    /// let mut network = Network::with_rows(3, 2)?;
-    /// let (a, b, c) = (network.add_node(5)?, network.add_node(-3)?, network.add_node(8)?);
-    /// network.add_edge(a, b, 10)?;
-    /// network.add_edge(c, a, 11)?;
-    /// assert_eq!(network.strip_node(a)?.edge_weights, [10, 11]);
-    /// assert_eq!((network.node_weight(a), network.neighbors(a)), (Ok(5), Ok(vec![])));
-    /// # Ok::<(), Refusal>(())
-    /// ```
-    pub fn strip_node(&mut self, a: NodeIndex) -> Result<NodeStripped, Refusal> {
-        let mut rows = 0;
-        let edge_weights = grown(|items| {
-            let count;
-            (rows, count) = self.strip_node_into(a, items)?;
-            Ok(count)
-        })?;
-        Ok(NodeStripped { rows, edge_weights })
-    }
-
-    /// The same with the weights into a table that may be too short: the rows read, and how many.
-    pub fn strip_node_into(
-        &mut self,
-        a: NodeIndex,
-        items: &mut [u32],
-    ) -> Result<(u64, usize), Refusal> {
-        let (t, directory, mut rows) = (&mut self.tables, &mut self.directory, 0);
-        let rows_at = &mut rows;
-        let count = filled(items, |at, length, count| {
-            change_either!(
-                t,
-                directory,
-                net_strip_node | net_dir_strip_node(t.n, &mut t.m, a.0, at, length, rows_at, count)
-            )
-        })?;
-        Ok((rows, count))
-    }
-
-    /// Takes out a node that has no edges; the last node takes its place. Refused [`Refusal::Broken`] where the
-    /// network, with its directory, is not sound, then [`Refusal::NotBare`] where the node has an edge.
-    ///
-    /// ```
-    /// # use waterways::{Network, NodeDropped, Refusal};
-    /// let mut network = Network::with_rows(2, 1)?;
-    /// let (a, b) = (network.add_node(5)?, network.add_node(-3)?);
-    /// network.add_edge(b, a, 10)?;
-    /// assert_eq!(network.drop_node(a), Err(Refusal::NotBare));
-    /// network.strip_node(a)?;
-    /// assert_eq!(network.drop_node(a), Ok(NodeDropped { weight: 5, rows: 0 }));
-    /// assert_eq!(network.node_weight(a), Ok(-3)); // the last node has moved in
-    /// # Ok::<(), Refusal>(())
-    /// ```
-    pub fn drop_node(&mut self, a: NodeIndex) -> Result<NodeDropped, Refusal> {
-        let (t, directory) = (&mut self.tables, &mut self.directory);
-        let (mut weight, mut rows) = (0, 0);
-        change_either!(
-            t,
-            directory,
-            net_drop_node | net_dir_drop_node(&mut t.n, t.m, a.0, &mut weight, &mut rows)
-        )?;
-        Ok(NodeDropped { weight, rows })
     }
 
     /// Takes out all nodes and edges.

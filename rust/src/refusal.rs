@@ -30,9 +30,9 @@ pub enum Refusal {
     Taken = 11,
     /// A register number that is not below the directory's length.
     Beyond = 12,
-    /// A node to be dropped that still has edges.
+    /// A node to be dropped that still has edges; no call gives this or those below yet.
     NotBare = 13,
-    /// Lists that no ranking of the edges gives; no call gives this or those below yet.
+    /// Lists that no ranking of the edges gives.
     NoRanking = 14,
     /// Outside the planning profile.
     Outside = 15,

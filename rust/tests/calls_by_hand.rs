@@ -9,7 +9,7 @@ use waterways::{END, EdgeDirection, EdgeIndex, Network, NodeIndex, Tables, Walke
 const LINES: &str = include_str!("by_hand/calls.txt");
 
 /// So many lines are cases. The others say what is lent, or why.
-const CASES: usize = 279;
+const CASES: usize = 243;
 
 /// The width of a network's name.
 const NAME: usize = 11;
@@ -130,8 +130,6 @@ impl Tried {
     fn answered(&mut self, line: &Line) -> String {
         let answer = match line.call {
             "add_node" | "add_edge" | "update_edge" => self.change(line),
-            "strip_node" => self.strip(line),
-            "drop_node" => self.drop(line),
             "walker" => self.begin(line),
             "step" => self.step(),
             _ if line.tables.is_empty() => self.ask(line),
@@ -157,32 +155,10 @@ impl Tried {
                 answer.map(|e| e.0)
             }
         };
-        self.keep(network);
-        shown::answer(answer, shown::number)
-    }
-
-    /// The tables as the network has them now, and the weights that were not lent.
-    fn keep(&mut self, network: Network) {
         let unlent = self.tables.weights.split_off(self.lent);
         self.tables = network.into_tables();
         self.tables.weights.extend(unlent);
-    }
-
-    /// The rows read, how many edges went, and their weights in a table as long as the line shows it.
-    fn strip(&mut self, line: &Line) -> String {
-        let (mut network, mut items) = (self.network(), vec![BEFORE; line.tables[0].len()]);
-        let answer = network.strip_node_into(line.node(0), &mut items);
-        self.keep(network);
-        let answer = shown::answer(answer, |(rows, count)| format!(" {rows} {count}"));
-        answer + &shown::cells(&items)
-    }
-
-    /// The node's weight, and the rows read.
-    fn drop(&mut self, line: &Line) -> String {
-        let mut network = self.network();
-        let answer = network.drop_node(line.node(0));
-        self.keep(network);
-        shown::answer(answer, |x| format!(" {} {}", x.weight, x.rows))
+        shown::answer(answer, shown::number)
     }
 
     /// The calls that give one number.

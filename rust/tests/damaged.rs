@@ -7,10 +7,8 @@ mod rules;
 
 use common::Random;
 use damage::{damage, misfit, sound, value};
-use rules::{Met, nodes};
-use waterways::{
-    END, EdgeDirection, EdgeIndex, EdgeRemoved, Fault, Network, NodeIndex, Refusal, Tables,
-};
+use rules::Met;
+use waterways::{END, EdgeDirection, EdgeIndex, Fault, Network, NodeIndex, Refusal, Tables};
 
 const CASES: u64 = 200_000;
 
@@ -125,122 +123,49 @@ fn short(network: &Network, a: u32) {
     assert_eq!(items[needed..], [77, 77]);
 }
 
-/// A call on both sides, from the same beginning: the same answer, and the same tables afterwards, which it gives.
-fn same<T: PartialEq + std::fmt::Debug>(
-    t: &Tables,
-    ours: impl FnOnce(&mut Network) -> Result<T, Refusal>,
-    rules: impl FnOnce(&mut Tables) -> Result<T, Refusal>,
-) -> (Result<T, Refusal>, Tables) {
-    let (mut network, mut after) = (Network::from_tables(t.clone()), t.clone());
-    let (answer, said) = (ours(&mut network), rules(&mut after));
-    assert_eq!(answer, said, "of {t:?}");
-    assert_eq!(network.tables(), &after, "of {t:?}");
-    (answer, after)
-}
-
 /// The calls that change something: answer, and tables afterwards.
 fn change(t: &Tables, a: u32, b: u32, e: u32) {
-    let (from, to) = (node(a), node(b));
-    let _ = same(
-        t,
-        |x| x.add_edge(from, to, 5).map(|e| e.0),
-        |t| rules::add_edge(t, a, b, 5),
+    let (mut network, mut after) = (Network::from_tables(t.clone()), t.clone());
+    let added = rules::add_edge(&mut after, a, b, 5);
+    assert_eq!(network.add_edge(node(a), node(b), 5), added.map(EdgeIndex));
+    assert_eq!(network.tables(), &after);
+
+    let (mut network, mut after) = (Network::from_tables(t.clone()), t.clone());
+    let updated = rules::update_edge(&mut after, a, b, 6);
+    assert_eq!(
+        network.update_edge(node(a), node(b), 6),
+        updated.map(EdgeIndex)
     );
-    let _ = same(
-        t,
-        |x| x.update_edge(from, to, 6).map(|e| e.0),
-        |t| rules::update_edge(t, a, b, 6),
-    );
-    let removed = |r: EdgeRemoved| (r.weight, r.moved.map(|l| l.0), r.rows);
-    let _ = same(
-        t,
-        |x| x.remove_edge(EdgeIndex(e)).map(removed),
-        |t| rules::remove_edge(t, e),
-    );
-}
+    assert_eq!(network.tables(), &after);
 
-/// What a call on a node answers and leaves, with all cells of the table lent to it.
-type Node<T> = (Result<T, Refusal>, Tables, Vec<u32>);
+    let (mut network, mut after) = (Network::from_tables(t.clone()), t.clone());
+    let removed = network
+        .remove_edge(EdgeIndex(e))
+        .map(|r| (r.weight, r.moved.map(|l| l.0), r.rows));
+    assert_eq!(removed, rules::remove_edge(&mut after, e));
+    assert_eq!(network.tables(), &after);
 
-fn node_removed(t: &Tables, a: u32, room: usize) -> Node<(i32, u64, usize)> {
-    let (mut items, mut expected) = (vec![77; room], vec![77; room]);
-    let ours = |x: &mut Network| {
-        let (removed, count) = x.remove_node_into(node(a), &mut items)?;
-        Ok((removed.weight, removed.rows, count))
-    };
-    let (answer, after) = same(t, ours, |t| nodes::remove_node(t, a, &mut expected));
-    assert_eq!(items, expected);
-    (answer, after, items)
-}
-
-fn node_stripped(t: &Tables, a: u32, room: usize) -> Node<(u64, usize)> {
-    let (mut items, mut expected) = (vec![77; room], vec![77; room]);
-    let (answer, after) = same(
-        t,
-        |x| x.strip_node_into(node(a), &mut items),
-        |t| nodes::strip_node(t, a, &mut expected),
-    );
-    assert_eq!(items, expected);
-    if let Ok((rows, count)) = answer {
-        let before = nodes::longest(t).saturating_sub(1);
-        assert!(rows <= 3 * (count * before) as u64);
-    }
-    (answer, after, items)
-}
-
-fn node_dropped(t: &Tables, a: u32) -> (Result<(i32, u32), Refusal>, Tables) {
-    let ours = |x: &mut Network| x.drop_node(node(a)).map(|x| (x.weight, x.rows));
-    let (answer, after) = same(t, ours, |t| nodes::drop_node(t, a));
-    assert!(answer.is_err() || answer.is_ok_and(|x| x.1 as usize <= 2 * nodes::longest(t)));
-    (answer, after)
-}
-
-/// With a table that grows nothing is refused 7, and a refused call gives no weight.
-fn grown(t: &Tables, a: u32) {
-    let (mut removed, mut given) = (Network::from_tables(t.clone()), Vec::new());
-    let answer = removed.remove_node_with(node(a), |w| given.push(w));
-    assert_eq!(answer.err(), nodes::asked(t, a).err());
-    if answer.is_ok() {
-        assert_eq!(removed.check(), Ok(2 * (t.m - given.len() as u32)));
-    } else {
-        assert_eq!((removed.tables(), given.len()), (t, 0));
-    }
     let mut network = Network::from_tables(t.clone());
-    let stripped = network.strip_node(node(a)).map(|x| x.edge_weights);
-    assert_eq!(stripped, answer.map(|_| given));
-}
-
-/// How often some answers were met: a node stripped of edges, one dropped for a node with edges, 7, and 13.
-#[derive(Debug, Default)]
-struct Tally([u64; 4]);
-
-impl Tally {
-    /// The calls that take out a node or its edges. Stripped and then dropped is removed.
-    fn change_node(&mut self, t: &Tables, a: u32, room: usize) {
-        grown(t, a);
-        let (removed, gone, given) = node_removed(t, a, room);
-        let (stripped, left, items) = node_stripped(t, a, room);
-        let (at_once, _) = node_dropped(t, a);
-        let (dropped, last) = node_dropped(&left, a);
-        let both = stripped.and_then(|(rows, count)| {
-            let (weight, read) = dropped?;
-            Ok((weight, rows + u64::from(read), count))
-        });
-        assert_eq!((both, &items), (removed, &given));
-        assert!(removed.is_err() || last == gone);
-        let met = [
-            stripped.is_ok_and(|x| x.1 > 0),
-            dropped.is_ok_and(|x| x.1 > 0),
-            stripped == Err(Refusal::Short),
-            at_once == Err(Refusal::NotBare),
-        ];
-        (0..4).for_each(|k| self.0[k] += u64::from(met[k]));
+    let refused = match () {
+        _ if !rules::fit(t) => Some(Refusal::Tables),
+        _ if t.n <= a => Some(Refusal::NoNode),
+        _ => rules::fault(t).map(|_| Refusal::Broken),
+    };
+    let mut given = 0;
+    assert_eq!(
+        network.remove_node_with(node(a), |_| given += 1).err(),
+        refused
+    );
+    if refused.is_some() {
+        assert_eq!((network.tables(), given), (t, 0));
+    } else {
+        assert_eq!(network.check(), Ok(2 * (t.m - given)));
     }
 }
 
 #[test]
 fn broken_links_are_answered_by_the_rules() {
-    let (mut broken, mut tally) = (0, Tally::default());
+    let mut broken = 0;
     for seed in 0..CASES {
         let mut random = Random(seed);
         let mut t = sound(&mut random);
@@ -253,10 +178,7 @@ fn broken_links_are_answered_by_the_rules() {
         broken += u64::from(rules::fault(&t).is_some());
         ask(&t, a, b, e);
         change(&t, a, b, e);
-        tally.change_node(&t, a, random.below(8) as usize);
     }
-    println!("stripped, dropped, refused 7 and 13: {tally:?}");
-    assert!(tally.0.iter().all(|times| CASES / 100 < *times));
     assert!(
         CASES / 4 < broken && broken < CASES,
         "{broken} of {CASES} are not sound"
@@ -272,7 +194,6 @@ fn tables_that_do_not_fit_are_refused_1() {
         assert!(!rules::fit(&t));
         ask(&t, 0, 0, 0);
         change(&t, 0, 0, 0);
-        Tally::default().change_node(&t, 0, 0);
         let mut network = Network::from_tables(t.clone());
         assert_eq!(network.add_node(1), Err(Refusal::Tables));
         assert_eq!(network.clear(), Err(Refusal::Tables));

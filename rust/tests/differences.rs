@@ -13,8 +13,8 @@ use std::time::Duration;
 use common::{Graph, tables_of};
 use oracle::graph::{self, UnGraph};
 use waterways::{
-    EDGE_ROWS, END, EdgeDirection, EdgeIndex, EdgeRemoved, Fault, NODE_ROWS, Network, NodeDropped,
-    NodeIndex, NodeRemoved, NodeStripped, Refusal, Tables,
+    EDGE_ROWS, END, EdgeDirection, EdgeIndex, EdgeRemoved, Fault, NODE_ROWS, Network, NodeIndex,
+    NodeRemoved, Refusal, Tables,
 };
 
 const OUT: EdgeDirection = EdgeDirection::Outgoing;
@@ -546,24 +546,6 @@ fn a_directory() {
     assert_eq!(ours.remove_number(10).map(|gone| gone.weight), Ok(10));
     assert_eq!(ours.find_number(13), Ok(edge(0)));
     refused(&ours, Refusal::Nothing, |g| g.find_number(10));
-}
-
-#[test]
-fn strip_and_drop() {
-    let (mut ours, mut theirs) = network_a(4);
-    // Node 2 has incoming edges alone: graph.rs takes them out with it.
-    refused(&ours, Refusal::NotBare, |g| g.drop_node(node(2)));
-    let mut given = Vec::new();
-    assert_eq!(theirs.remove_node_with(at(0), |w| given.push(w)), Some(5));
-    let stripped = NodeStripped {
-        rows: 1,
-        edge_weights: given,
-    };
-    assert_eq!(ours.strip_node(node(0)), Ok(stripped));
-    assert_eq!((ours.node_count(), ours.node_weight(node(0))), (3, Ok(5)));
-    let dropped = NodeDropped { weight: 5, rows: 1 };
-    assert_eq!(ours.drop_node(node(0)), Ok(dropped));
-    assert_eq!(ours.into_tables(), tables_of(&theirs, 3, 4));
 }
 
 // The tables

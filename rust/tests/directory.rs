@@ -19,15 +19,13 @@ use waterways::{END, EdgeDirection, EdgeIndex, EdgeRemoved, Fault, Network, Node
 const CASES: u64 = 60_000;
 
 /// Every call with a directory, and all answers that it can give.
-const CALLS: [(&str, &[u32]); 14] = [
+const CALLS: [(&str, &[u32]); 12] = [
     ("check", &[0, 1, 6]),
     ("add_edge", &[0, 1, 2, 3, 11, 12]),
     ("update_edge", &[0, 1, 2, 3, 6, 11, 12]),
     ("set_edge_weight", &[0, 1, 4, 6, 11, 12]),
     ("remove_edge", &[0, 1, 4, 6]),
     ("remove_node", &[0, 1, 3, 6, 7]),
-    ("strip_node", &[0, 1, 3, 6, 7]),
-    ("drop_node", &[0, 1, 3, 6, 13]),
     ("clear_edges", &[0, 1]),
     ("clear", &[0, 1]),
     ("image_write", &[0, 1, 6, 7]),
@@ -270,9 +268,10 @@ impl Both<'_> {
         self.with_outputs(with);
     }
 
-    /// The calls that take out a node or its edges: every cell of an output is compared, too.
-    fn on_node(&mut self, a: u32, room: usize) {
-        let (mut items, mut expected) = (vec![77; room], vec![77; room]);
+    /// The calls that fill a table, and the one that reads one: every cell of an output is compared, too.
+    fn with_outputs(&mut self, with: &Operands) {
+        let a = with.a;
+        let (mut items, mut expected) = (vec![77; with.room], vec![77; with.room]);
         self.same(
             "remove_node",
             |x| {
@@ -282,23 +281,6 @@ impl Both<'_> {
             |f| f.remove_node(a, &mut expected),
         );
         assert_eq!(items, expected);
-        let (mut items, mut expected) = (vec![77; room], vec![77; room]);
-        self.same(
-            "strip_node",
-            |x| x.strip_node_into(NodeIndex(a), &mut items),
-            |f| f.strip_node(a, &mut expected),
-        );
-        assert_eq!(items, expected);
-        self.same(
-            "drop_node",
-            |x| x.drop_node(NodeIndex(a)).map(|x| (x.weight, x.rows)),
-            |f| f.drop_node(a),
-        );
-    }
-
-    /// The other calls that fill a table, and the one that reads one, in the same way.
-    fn with_outputs(&mut self, with: &Operands) {
-        self.on_node(with.a, with.room);
         let t = &self.before.tables;
         let whole = 13 + 12 * t.weights.len() + 20 * t.registers.len();
         let room = whole.saturating_sub(20 * with.room / 2);

@@ -211,97 +211,6 @@ fn calls_by_number_are_refused_1_12_5_6() {
     assert_eq!(network.find_number(13), Ok(EdgeIndex(1)));
 }
 
-/// Node a stripped, with so many cells for the weights.
-fn strip(a: u32, cells: usize) -> impl Fn(&mut Network) -> Result<(u64, usize), Refusal> {
-    move |x| x.strip_node_into(NodeIndex(a), &mut vec![0; cells])
-}
-
-/// Node a dropped: its weight, and the rows read.
-fn drop(a: u32) -> impl Fn(&mut Network) -> Result<(i32, u32), Refusal> {
-    move |x| x.drop_node(NodeIndex(a)).map(|x| (x.weight, x.rows))
-}
-
-#[test]
-fn strips_are_refused_1_3_6_7() {
-    refused(unfit(network_a(4)), Refusal::Tables, strip(3, 0));
-    refused(misfiled(4, &[(10, END)]), Refusal::NoNode, strip(3, 0));
-    refused(misfiled(4, &[(10, END)]), Refusal::Broken, strip(0, 0));
-    // Node 2 has no part in the entry or the link that is wrong.
-    refused(misfiled(4, &[(13, 0)]), Refusal::Broken, strip(2, 9));
-    let broken = damaged(network_a(4), |t| t.heads[3] = 0);
-    refused(broken, Refusal::Broken, strip(2, 9));
-    refused(network_a(4), Refusal::Short, strip(1, 2));
-    let mut network = network_a(4);
-    assert_eq!(strip(1, 3)(&mut network), Ok((2, 3)));
-    // Of the four waterways 12 is left, and has moved twice.
-    assert_eq!(
-        [10, 11, 12, 13].map(|r| entry(&network, r)),
-        [END, END, 0, END]
-    );
-    assert_eq!(network.check(), Ok(2));
-    // A node without edges needs no cell, and changes no entry.
-    let before = network.clone();
-    assert_eq!(strip(1, 0)(&mut network), Ok((0, 0)));
-    assert_eq!(network, before);
-}
-
-#[test]
-fn drops_are_refused_1_3_6_13() {
-    refused(unfit(network_a(4)), Refusal::Tables, drop(3));
-    refused(misfiled(4, &[(10, END)]), Refusal::NoNode, drop(3));
-    refused(misfiled(4, &[(10, END)]), Refusal::Broken, drop(0));
-    for a in 0..3 {
-        refused(network_a(4), Refusal::NotBare, drop(a));
-    }
-    let mut network = network_a(4);
-    network.strip_node(NodeIndex(0)).expect("it is sound");
-    // A leftover, though the node is bare.
-    let mut directory = network.directory().expect("it has one").to_vec();
-    directory[10] = 0;
-    refused(network.clone().beside(directory), Refusal::Broken, drop(0));
-    refused(network.clone(), Refusal::NotBare, drop(2));
-    let entries = network.directory().map(<[u32]>::to_vec);
-    assert_eq!(drop(0)(&mut network), Ok((5, 1)));
-    // Node 2 has moved, and no entry has changed.
-    assert_eq!(network.directory(), entries.as_deref());
-    let ends = network.edge_endpoints(EdgeIndex(1));
-    assert_eq!(ends, Ok((NodeIndex(1), NodeIndex(0))));
-    assert_eq!(network.check(), Ok(4));
-}
-
-/// The removal of a node is a strip and a drop: answers and entries.
-#[test]
-fn a_node_goes_by_two_calls() {
-    for a in 0..3 {
-        let (mut network, mut apart) = (network_a(4), network_a(4));
-        let (removed, count) = network
-            .remove_node_into(NodeIndex(a), &mut [0; 4])
-            .expect("it is sound, and there is room");
-        let (rows, edges) = strip(a, 4)(&mut apart).expect("it is sound, and there is room");
-        let (weight, read) = drop(a)(&mut apart).expect("it is bare");
-        assert_eq!((rows + u64::from(read), edges), (removed.rows, count));
-        assert_eq!(weight, removed.weight);
-        assert_eq!(apart, network);
-    }
-}
-
-/// The calls that want a right directory are refused 3, then 6.
-fn wanting_it_right(network: &Network) {
-    refused(network.clone(), Refusal::NoNode, |x| {
-        x.remove_node_with(NodeIndex(3), |_| ())
-    });
-    refused(network.clone(), Refusal::Broken, |x| {
-        x.remove_node_into(NodeIndex(0), &mut [])
-    });
-    refused(network.clone(), Refusal::NoNode, strip(3, 0));
-    refused(network.clone(), Refusal::Broken, strip(0, 0));
-    refused(network.clone(), Refusal::NoNode, drop(3));
-    refused(network.clone(), Refusal::Broken, drop(0));
-    refused(network.clone(), Refusal::Broken, |x| {
-        x.image_write_into(&mut [])
-    });
-}
-
 /// The calls that ask whether the network is sound ask of its directory, too.
 #[test]
 fn a_wrong_directory_is_not_sound() {
@@ -321,7 +230,15 @@ fn a_wrong_directory_is_not_sound() {
     let wrong = cases.map(|entries| misfiled(4, entries));
     for mut network in wrong.into_iter().chain([short, twice]) {
         assert_eq!(network.check(), fault(4));
-        wanting_it_right(&network);
+        refused(network.clone(), Refusal::NoNode, |x| {
+            x.remove_node_with(NodeIndex(3), |_| ())
+        });
+        refused(network.clone(), Refusal::Broken, |x| {
+            x.remove_node_into(NodeIndex(0), &mut [])
+        });
+        refused(network.clone(), Refusal::Broken, |x| {
+            x.image_write_into(&mut [])
+        });
         // Walks and searches do not ask.
         assert_eq!(
             network.find_edge(NodeIndex(2), NodeIndex(1)),

@@ -7,7 +7,7 @@ mod common;
 
 use std::collections::HashMap;
 
-use beside::{added_node, dropped, may_add, removed_by_two, stripped};
+use beside::{added_node, may_add};
 use common::{Graph, Random, tables_of};
 use oracle::graph;
 use waterways::{END, EdgeIndex, Network, NodeIndex, Refusal};
@@ -24,8 +24,8 @@ struct Pair {
     edge_rows: usize,
     cells: u32,
     random: Random,
-    /// Calls made; those refused 11 and 12; nodes stripped of edges, nodes dropped, and drops refused 13.
-    made: [u64; 6],
+    /// Calls made; those refused 11 and 12.
+    made: [u64; 3],
 }
 
 impl Pair {
@@ -43,7 +43,7 @@ impl Pair {
             edge_rows,
             cells,
             random,
-            made: [0; 6],
+            made: [0; 3],
         }
     }
 
@@ -83,7 +83,7 @@ impl Pair {
     }
 
     fn call(&mut self) {
-        match self.random.below(34) {
+        match self.random.below(32) {
             0..=3 => self.add_node(),
             4..=13 => self.add_edge(),
             14..=17 => self.update_edge(),
@@ -93,12 +93,7 @@ impl Pair {
             27 => self.remove_node(),
             28 | 29 => self.find_number(),
             30 => self.image(),
-            31 => self.clear(),
-            32 => self.strip_node(),
-            _ => {
-                let a = self.node();
-                self.drop_node(a);
-            }
+            _ => self.clear(),
         }
         self.made[0] += 1;
         self.same();
@@ -213,55 +208,19 @@ impl Pair {
         assert_eq!(self.ours.find_number(r), self.row(r));
     }
 
+    /// graph.rs moves rows as it goes, and does not tell which: the map is made anew.
     fn remove_node(&mut self) {
         let (a, mut given, mut expected_given) = (self.node(), Vec::new(), Vec::new());
         let removed = self
             .theirs
             .remove_node_with(graph::NodeIndex(a), |w| expected_given.push(w));
-        self.file();
-        let (mut twin, mut apart) = (self.without(), self.ours.clone());
+        let numbers = self.theirs.all_edge_weights().copied().zip(0..);
+        self.rows = numbers.map(|(r, e)| (r, graph::EdgeIndex(e))).collect();
+        let mut twin = self.without();
         let ours = self.ours.remove_node_with(NodeIndex(a), |w| given.push(w));
         assert_eq!(ours.map(|x| x.weight), removed.ok_or(Refusal::NoNode));
         assert_eq!(given, expected_given);
         assert_eq!(twin.remove_node_with(NodeIndex(a), |_| ()), ours);
-        // Stripped and then dropped it is the same.
-        let by_two = removed_by_two(&mut apart, NodeIndex(a));
-        assert_eq!(by_two, ours.map(|removed| (removed, given)));
-        assert_eq!(apart, self.ours);
-    }
-
-    /// graph.rs moves rows as it goes, and does not tell which: the map is made anew.
-    fn file(&mut self) {
-        let numbers = self.theirs.all_edge_weights().copied().zip(0..);
-        self.rows = numbers.map(|(r, e)| (r, graph::EdgeIndex(e))).collect();
-    }
-
-    /// Every other time the node, which is bare then, is dropped.
-    fn strip_node(&mut self) {
-        let (a, mut twin) = (self.node(), self.without());
-        let weights = stripped(&mut self.theirs, graph::NodeIndex(a));
-        self.file();
-        self.made[3] += u64::from(!weights.is_empty());
-        let there = (a as usize) < self.theirs.node_count();
-        let ours = self.ours.strip_node(NodeIndex(a));
-        assert_eq!(twin.strip_node(NodeIndex(a)), ours);
-        let expected = there.then_some(weights).ok_or(Refusal::NoNode);
-        assert_eq!(ours.map(|x| x.edge_weights), expected);
-        if self.random.below(2) == 0 {
-            self.same();
-            self.drop_node(a);
-        }
-    }
-
-    /// The map stays as it is.
-    fn drop_node(&mut self, a: u32) {
-        let mut twin = self.without();
-        let expected = dropped(&mut self.theirs, graph::NodeIndex(a));
-        let ours = self.ours.drop_node(NodeIndex(a));
-        assert_eq!(ours.map(|x| x.weight), expected);
-        assert_eq!(twin.drop_node(NodeIndex(a)), ours);
-        self.made[4] += u64::from(ours.is_ok());
-        self.made[5] += u64::from(ours == Err(Refusal::NotBare));
     }
 
     /// Our network without its directory.
@@ -300,18 +259,16 @@ impl Pair {
 
 #[test]
 fn random_calls_keep_the_directory_in_step() {
-    let mut made = [0; 6];
+    let mut made = [0; 3];
     for seed in 0..RUNS {
         let mut pair = Pair::new(seed);
         (0..CALLS).for_each(|_| pair.call());
-        (0..6).for_each(|k| made[k] += pair.made[k]);
+        (0..3).for_each(|k| made[k] += pair.made[k]);
     }
-    let [calls, taken, beyond, nodes @ ..] = made;
+    let [calls, taken, beyond] = made;
     println!("{calls} calls beside graph.rs: {taken} refused 11, {beyond} refused 12");
-    println!("stripped, dropped, refused 13: {nodes:?}");
     assert_eq!(calls, RUNS * CALLS as u64);
     assert!(calls / 50 < taken && calls / 200 < beyond);
-    assert!(nodes.iter().all(|times| RUNS < *times));
 }
 
 /// Without a directory the calls are as before, and a number is beyond it.

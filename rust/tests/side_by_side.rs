@@ -3,13 +3,10 @@
 mod beside;
 mod common;
 
-use beside::{added_node, dropped, may_add, removed_by_two, stripped};
+use beside::{added_node, may_add};
 use common::{Graph, Random, tables_of};
 use oracle::graph;
-use waterways::{
-    EdgeDirection, EdgeIndex, EdgeRemoved, Network, NodeDropped, NodeIndex, NodeRemoved,
-    NodeStripped, Refusal,
-};
+use waterways::{EdgeDirection, EdgeIndex, EdgeRemoved, Network, NodeIndex, NodeRemoved, Refusal};
 
 const RUNS: u64 = 1_000;
 const CALLS: usize = 400;
@@ -21,8 +18,6 @@ struct Pair {
     node_rows: usize,
     edge_rows: usize,
     random: Random,
-    /// Nodes stripped of edges, nodes dropped, and drops refused 13.
-    met: [u64; 3],
 }
 
 impl Pair {
@@ -38,7 +33,6 @@ impl Pair {
             node_rows,
             edge_rows,
             random,
-            met: [0; 3],
         }
     }
 
@@ -70,7 +64,7 @@ impl Pair {
         let kinds = if growing && self.random.below(2) == 0 {
             8
         } else {
-            34
+            32
         };
         match self.random.below(kinds) {
             0 | 1 => self.add_node(),
@@ -83,12 +77,7 @@ impl Pair {
             23..=25 => self.find(),
             26..=29 => self.walk(),
             30 => self.image(),
-            31 => self.clear(),
-            32 => self.strip_node(),
-            _ => {
-                let a = self.node();
-                self.drop_node(a);
-            }
+            _ => self.clear(),
         }
         self.same_rows();
         assert_eq!(self.ours.check(), Ok(2 * self.theirs.edge_count() as u32));
@@ -150,13 +139,9 @@ impl Pair {
         let expected = removed
             .ok_or(Refusal::NoNode)
             .map(|weight| NodeRemoved { weight, rows });
-        let (mut twin, mut apart) = (self.ours.clone(), self.ours.clone());
+        let mut twin = self.ours.clone();
         assert_eq!(self.ours.remove_node_with(a, |w| given.push(w)), expected);
         assert_eq!(given, expected_given);
-        // Stripped and then dropped it is the same.
-        let by_two = removed_by_two(&mut apart, a);
-        assert_eq!(by_two, expected.map(|removed| (removed, given.clone())));
-        assert_eq!(apart, self.ours);
         // The same into a lent table: one that lacks a cell is refused, and nothing changes.
         let mut items = vec![0; given.len()];
         if let Some(less) = given.len().checked_sub(1) {
@@ -166,43 +151,6 @@ impl Pair {
         let into = twin.remove_node_into(a, &mut items);
         assert_eq!(into, expected.map(|removed| (removed, given.len())));
         assert_eq!((items, twin), (given, self.ours.clone()));
-    }
-
-    /// Every other time the node, which is bare then, is dropped.
-    fn strip_node(&mut self) {
-        let (a, longest) = (self.node(), longest(&self.theirs));
-        let rows = rows_of_strip(&mut self.theirs.clone(), theirs(a));
-        let walked: Vec<u32> = self.theirs.edge_weights(theirs(a)).copied().collect();
-        assert!(rows <= 3 * (walked.len() * longest.saturating_sub(1)) as u64);
-        let edge_weights = stripped(&mut self.theirs, theirs(a));
-        assert_eq!(edge_weights, walked);
-        if let Some(less) = walked.len().checked_sub(1) {
-            let (before, mut items) = (self.ours.clone(), vec![77; less]);
-            let short = self.ours.strip_node_into(a, &mut items);
-            assert_eq!((short, items), (Err(Refusal::Short), vec![77; less]));
-            assert_eq!(self.ours, before);
-        }
-        let expected = match self.has(a) {
-            true => Ok(NodeStripped { rows, edge_weights }),
-            false => Err(Refusal::NoNode),
-        };
-        assert_eq!(self.ours.strip_node(a), expected);
-        self.met[0] += u64::from(!walked.is_empty());
-        if self.random.below(2) == 0 {
-            self.same_rows();
-            self.drop_node(a);
-        }
-    }
-
-    fn drop_node(&mut self, a: NodeIndex) {
-        let rows = rows_of_drop(&self.theirs, theirs(a)) as u32;
-        let most = 2 * longest(&self.theirs) as u32;
-        let weight = dropped(&mut self.theirs, theirs(a));
-        let expected = weight.map(|weight| NodeDropped { weight, rows });
-        assert_eq!(self.ours.drop_node(a), expected);
-        assert!(expected.is_err() || rows <= most);
-        self.met[1] += u64::from(expected.is_ok());
-        self.met[2] += u64::from(expected == Err(Refusal::NotBare));
     }
 
     fn set_weights(&mut self) {
@@ -426,53 +374,32 @@ fn rows_of_edge(g: &Graph, e: graph::EdgeIndex) -> u32 {
     (before(g, e, None) + moved) as u32
 }
 
-/// The edges of the longest list.
-fn longest(g: &Graph) -> usize {
-    let nodes = (0..g.node_count() as u32).map(graph::NodeIndex);
-    let lists = nodes.flat_map(|a| graph::EdgeDirection::ALL.map(|dir| list(g, a, dir, None)));
-    lists.map(|edges| edges.len()).max().unwrap_or(0)
-}
-
-/// The rows that stripping a node reads: those of its edges, head by head, which go.
-fn rows_of_strip(g: &mut Graph, a: graph::NodeIndex) -> u64 {
+/// The rows that taking out a node reads: those of its edges, head by head, and those of the node that moves.
+fn rows_of_node(g: &Graph, a: graph::NodeIndex) -> u64 {
+    let mut g = g.clone();
     let mut rows = 0;
     for dir in graph::EdgeDirection::ALL {
         while let Some(e) = g.first_edge(a, dir) {
-            rows += u64::from(rows_of_edge(g, e));
+            rows += u64::from(rows_of_edge(&g, e));
             g.remove_edge(e);
         }
+    }
+    let last = graph::NodeIndex((g.node_count() as u32).saturating_sub(1));
+    if a < last {
+        let moved = graph::EdgeDirection::ALL.map(|dir| list(&g, last, dir, None).len() as u64);
+        rows += moved.into_iter().sum::<u64>();
     }
     rows
 }
 
-/// The rows that dropping a node reads: those of the node that moves.
-fn rows_of_drop(g: &Graph, a: graph::NodeIndex) -> u64 {
-    let last = graph::NodeIndex((g.node_count() as u32).saturating_sub(1));
-    if a >= last {
-        return 0;
-    }
-    let moved = graph::EdgeDirection::ALL.map(|dir| list(g, last, dir, None).len() as u64);
-    moved.into_iter().sum()
-}
-
-/// The rows that taking out a node reads: those of both.
-fn rows_of_node(g: &Graph, a: graph::NodeIndex) -> u64 {
-    let mut g = g.clone();
-    rows_of_strip(&mut g, a) + rows_of_drop(&g, a)
-}
-
 #[test]
 fn random_calls_have_the_same_answers_and_rows() {
-    let mut met = [0; 3];
     for seed in 0..RUNS {
         let mut pair = Pair::new(seed);
         for call in 0..CALLS {
             pair.call(call / 100 % 2 == 0);
         }
-        (0..3).for_each(|k| met[k] += pair.met[k]);
     }
-    println!("stripped, dropped, refused 13: {met:?}");
-    assert!(met.iter().all(|times| RUNS < *times));
 }
 
 /// A node with more edges than a table has at first: the table grows, and the removal is made once.
@@ -502,19 +429,16 @@ fn a_hub_is_walked_and_removed() {
         Ok(pair.theirs.neighbors(hub).map(node_of).collect())
     );
     let rows = rows_of_node(&pair.theirs, hub);
-    let by_two = removed_by_two(&mut pair.ours.clone(), NodeIndex(7));
     let (mut given, mut expected) = (Vec::new(), Vec::new());
     let weight = pair
         .theirs
         .remove_node_with(hub, |w| expected.push(w))
         .expect("the node is there");
-    let removed = NodeRemoved { weight, rows };
     assert_eq!(
         pair.ours.remove_node_with(NodeIndex(7), |w| given.push(w)),
-        Ok(removed)
+        Ok(NodeRemoved { weight, rows })
     );
     assert_eq!(given, expected);
-    assert_eq!(by_two, Ok((removed, expected)));
     pair.same_rows();
 }
 

@@ -6,18 +6,14 @@ ghost use Rattle.walker.specs.Steps.{told_begun, told_step, moved};
 ghost use Rattle.walker.specs.Sums.{told_summed};
 ghost use Rattle.sound.specs.Check.{told_checked};
 ghost use Rattle.removal.specs.Removal.{told_edge_removed};
-ghost use Rattle.stripping.specs.Stripping.{told_node_stripped};
-ghost use Rattle.dropping.specs.Dropping.{told_node_dropped};
 ghost use Rattle.closing.specs.Closing.{told_node_removed};
 ghost use Rattle.cells.specs.Told.{told, walker_in, cells_of, told_in_cells};
 
 use closing::NodeRemoved;
-use dropping::NodeDropped;
 use find::Contains;
 use index::{EdgeIndex, NodeIndex, Refusal};
 use removal::EdgeRemoved;
 use sound::Checked;
-use stripping::NodeStripped;
 use tables::{Changed, EdgeAnswer, EdgeWeight, Endpoints, Items, NodeAnswer, NodeWeight};
 use walker::{Begun, Step, Summed, Walker};
 
@@ -270,40 +266,6 @@ pub fn tell_node_removed(
             *weight = 0;
             *rows = 0;
             *count = 0;
-            why.number()
-        }
-    }
-}
-
-pub fn tell_node_stripped(answer: NodeStripped, rows: &mut u64, count: &mut u32) -> u32
-    ensures { told result (rows.new, count.new) ≡ told_node_stripped answer }
-{
-    match answer {
-        NodeStripped::Edges(read, c) => {
-            *rows = read;
-            *count = c;
-            0
-        }
-        NodeStripped::Refused(why) => {
-            *rows = 0;
-            *count = 0;
-            why.number()
-        }
-    }
-}
-
-pub fn tell_node_dropped(answer: NodeDropped, weight: &mut i32, rows: &mut u32) -> u32
-    ensures { told result (weight.new, rows.new) ≡ told_node_dropped answer }
-{
-    match answer {
-        NodeDropped::Node(w, read) => {
-            *weight = w;
-            *rows = read;
-            0
-        }
-        NodeDropped::Refused(why) => {
-            *weight = 0;
-            *rows = 0;
             why.number()
         }
     }

@@ -17,10 +17,11 @@ use Rattle.tables.specs.Answers.{done, onto}
 use Rattle.tables.proofs.Laws.{tested}
 use Rattle.lists.specs.declared.Item.TheVariants.{Weight}
 use Rattle.lists.specs.Walk.{around}
+use Rattle.sound.specs.declared.Checked.{Checked}
+use Rattle.sound.specs.declared.Checked.TheVariants as Checked·
 use Rattle.sound.specs.Sound.{end_at, Sound, lists}
-use Rattle.sound.specs.Check.{is_sound}
-use Rattle.sound.proofs.Accepted.{sound_so}
-use Rattle.sound.proofs.Exactly.{sound_accepted}
+use Rattle.sound.specs.Check.{checked, accepted}
+use Rattle.sound.proofs.Exactly.{sound_accepted, accepted-sound}
 use Rattle.sound.proofs.Kept.{HasLists}
 use Rattle.removal.specs.Lists.{renamed, Longest}
 use Rattle.removal.proofs.Freed.{freed_on}
@@ -32,8 +33,15 @@ use Rattle.dropping.specs.Drop.{node_moved}
 use Rattle.closing.specs.Lists.{less_node, node_read, Stays, NodeOut}
 use Rattle.stripping.proofs.Stripping.{less_both, given_are, strip-fits, strip-sound, strip-nodes, strip-freed, strip-totals, strip-edges, bare-lists}
 use Rattle.stripping.proofs.Stripping.{strip-rows, longest_left, strip-most, new_number, strip-follows}
-use Rattle.dropping.proofs.Bare.{drop-lists}
 use Rattle.dropping.proofs.Dropping.{drop-nodes, drop-edges, drop-registers, drop-totals, drop-fits, drop-ends, drop-sound, drop-read, drop-freed}
+
+-- node b under the number a
+moved-list : (a b : ℕ) (ls : ℕ → ℕ → List ℕ) (k c : ℕ) → (c ≡ a → ⊥) → node_moved a b ls k (renamed b a c) ≡ ls k c
+moved-list a b ls k c n =
+    elim (ℕ_discrete c b) [
+      | yes q ↦ rw (eq-eqb c b q, eq-eqb a a refl) (ap (ls k) (sym q))
+      | no q ↦ rw (ne_eqb c b q, ne_eqb c a n)
+    ]
 
 module _ (g : Net) (ls : ℕ → ℕ → List ℕ) (a : ℕ) (f : fits g ≡ true) (S : Sound g ls) (la : a < g.n) where
   -- the network that the node is dropped from
@@ -97,7 +105,7 @@ module _ (g : Net) (ls : ℕ → ℕ → List ℕ) (a : ℕ) (f : fits g ≡ tru
         sound = subst (λ b. Sound (dropped rest a) (node_moved a b L)) last (drop-sound rest L a rest_fits rest_sound in_rest (bare-lists g ls a f S la));
         renumbered = (
           new_number g ls a f S la,
-          record { order = λ k c h l n. drop-lists a b L k c n ∙ (strip-follows g ls a f S la).order k c h l; stays = stays },
+          record { order = λ k c h l n. moved-list a b L k c n ∙ (strip-follows g ls a f S la).order k c h l; stays = stays },
         );
         totals =
             λ c l.
@@ -121,7 +129,7 @@ node-refused g a items =
     let P : Closed → Type 0 = λ o. (o.answer.number ≡ 0 → ⊥) → o.after ≡ (g, items) in
     tested P (fits g) _ _ (λ n. refl) (λ f.
     tested P (ltb a g.n) _ _ (λ n. refl) (λ l.
-    tested P (is_sound g) _ _ (λ n. refl) (λ c.
+    tested P (accepted (checked g)) _ _ (λ n. refl) (λ c.
     tested P (leb (length (around g Weight a)) (length items)) _ _ (λ n. refl) (λ r n. absurd (n refl)))))
 
 pub node_kept : (g : Net) (ls : ℕ → ℕ → List ℕ) (a : ℕ) (items : List ℕ) → Sound g ls → HasLists (remove_node g a items).after.0
@@ -130,16 +138,23 @@ node_kept g ls a items S =
     let P : Closed → Type 0 = λ o. HasLists o.after.0 in
     tested P (fits g) _ _ (ls, S) (λ f.
     tested P (ltb a g.n) _ _ (ls, S) (λ l.
-    tested P (is_sound g) _ _ (ls, S) (λ c.
+    tested P (accepted (checked g)) _ _ (ls, S) (λ c.
     tested P (leb (length (around g Weight a)) (length items)) _ _ (ls, S) (λ r.
     (less_node a (g.n - 1) (listing g ls), (closing g ls a f S (ltb-true a g.n l) items).sound)))))
+
+accepts : (r : Checked) → accepted r ≡ true → (rows : ℕ) × (r ≡ Checked·.Accepted rows)
+accepts (Checked·.Accepted rows) h = (rows, refl)
+accepts (Checked·.Fault d a) h = absurd (let z : ◌≡◌ {A = ℕ} 0 1 = cc in omega arith)
+accepts (Checked·.Refused why) h = absurd (let z : ◌≡◌ {A = ℕ} 0 1 = cc in omega arith)
 
 module _ (g : Net) (a : ℕ) (items : List ℕ) (f : fits g ≡ true) (la : a < g.n) where
   pub unsound_6 : (HasLists g → ⊥) → (remove_node g a items).answer.number ≡ 6
   unfolding remove_node
   unsound_6 n =
       rw (f, lt-ltb a g.n la)
-      (tested (λ (o : Closed). o.answer.number ≡ 6) (is_sound g) _ _ refl (λ s. absurd (n (lists g, (sound_so g s).1))))
+      (tested (λ (o : Closed). o.answer.number ≡ 6) (accepted (checked g)) _ _ refl (λ c.
+      let r = accepts (checked g) c in
+      absurd (n (lists g, (accepted-sound g r.0 r.1).1))))
 
   pub six_unsound : (remove_node g a items).answer.number ≡ 6 → HasLists g → ⊥
   unfolding remove_node closed_if_room

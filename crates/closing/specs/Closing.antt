@@ -1,5 +1,5 @@
 -- Taking a node out: it is stripped of its edges, one head after the other, and dropped; the last node takes its place.
-use Rattle.std.specs.Prelude.{ℕ, ◌+◌, List, eqb, ltb, leb, ℤ, pos, length, get_or}
+use Rattle.std.specs.Prelude.{ℕ, ◌+◌, List, ltb, leb, ℤ, pos, length, get_or}
 use Rattle.index.specs.declared.Refusal.TheVariants.{Tables, NoNode, Broken, Short}
 use Rattle.tables.specs.Net.{Net, fits}
 use Rattle.tables.specs.Answers.{Told, Out, out, done, refused, unless, onto}
@@ -37,12 +37,3 @@ remove_node g a items =
     (unless (ltb a g.n) (out (refused NoNode (pos 0, 0, 0)) (g, items))
     (unless (is_sound g) (out (refused Broken (pos 0, 0, 0)) (g, items))
     (closed_if_room g a items)))
-
--- a stripping, then the dropping of what it left; a stripping that is refused is the answer, with zeros
-abbrev pub then_dropped : {S : Type 0} → (S → Out (ℤ × ℕ) S) → Out (ℕ × ℕ) (S × List ℕ) → Out (ℤ × ℕ × ℕ) (S × List ℕ)
-then_dropped drop s =
-    let d = drop s.after.0 in
-    unless (eqb s.answer.number 0) (out (record { number = s.answer.number; values = (pos 0, 0, 0) }) s.after)
-    (out
-    (record { number = d.answer.number; values = (d.answer.values.0, s.answer.values.0 + d.answer.values.1, s.answer.values.1) })
-    (d.after, s.after.1))

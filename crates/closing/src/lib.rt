@@ -1,13 +1,15 @@
-// Taking a node with its edges out of a network: it is stripped, then dropped.
+// Taking a node out of a network.
 ghost use Rattle.std.specs.Prelude.{◌≡◌};
 ghost use Rattle.tables.specs.Net.{entering, leaving};
 ghost use Rattle.tables.specs.Answers.{out};
 ghost use Rattle.closing.specs.Closing.{remove_node, told_node_removed};
 
-use dropping::parts::drop;
 use index::{NodeIndex, Refusal};
-use stripping::parts::{strip, strippable};
-use tables::parts::Claim;
+use parts::close;
+use sound::{Checked, check};
+use tables::parts::fits;
+
+pub mod parts;
 
 // The node's weight, the rows read, and how many edges went with it: their weights stand in the table lent for them.
 #[derive(Drop)]
@@ -31,17 +33,16 @@ pub fn remove_node(
     ensures { out (told_node_removed result) (leaving weights heads registers links ends n.new m.new, items.new) ≡ remove_node (entering weights heads registers links ends n.old m.old) a.0 items.old }
 {
     let nodes = *n;
-    // A node stripped is bare: nothing else stands against its dropping.
-    match strippable(weights, heads, registers, links, ends, nodes, *m, a, items) {
-        Claim::Refused(why) => NodeRemoved::Refused(why),
-        Claim::Free => {
-            let stripped = strip(heads, registers, links, ends, nodes, m, a, items);
-            let dropped = drop(weights, heads, links, ends, n, *m, a);
-            NodeRemoved::Node(
-                dropped.weight,
-                stripped.rows + dropped.rows as u64,
-                stripped.count,
-            )
-        }
+    let edges = *m;
+    if !fits(weights, heads, registers, links, ends, nodes, edges) {
+        return NodeRemoved::Refused(Refusal::Tables);
+    }
+    if nodes <= a.0 {
+        return NodeRemoved::Refused(Refusal::NoNode);
+    }
+    match check(weights, heads, registers, links, ends, nodes, edges) {
+        Checked::Accepted(_) => close(weights, heads, registers, links, ends, n, m, a, items),
+        Checked::Fault(_, _) => NodeRemoved::Refused(Refusal::Broken),
+        Checked::Refused(_) => NodeRemoved::Refused(Refusal::Broken),
     }
 }

@@ -38,7 +38,7 @@ edge-taken g e (f, S) l =
     }
 
 -- a node that is left, by its new number, is below the new count
-pub still_node : (n a c : ℕ) → a < n → c < n → (c ≡ a → ⊥) → renamed (n - 1) a c < n - 1
+still_node : (n a c : ℕ) → a < n → c < n → (c ≡ a → ⊥) → renamed (n - 1) a c < n - 1
 still_node n a c i j d =
     elim (ℕ_discrete c (n - 1)) [
       | yes q ↦ rw (eq-eqb c (n - 1) q) (omega arith)

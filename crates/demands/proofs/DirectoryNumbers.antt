@@ -25,18 +25,17 @@ use Rattle.sound.specs.declared.Checked.TheVariants as Checked·
 use Rattle.sound.specs.Check.{checked, told_checked}
 use Rattle.sound.proofs.Exactly.{small}
 use Rattle.removal.specs.Removal.{taken_out, remove_edge}
-use Rattle.closing.specs.Closing.{remove_node}
+use Rattle.closing.specs.Closing.{Closed, remove_node}
 use Rattle.letters.specs.Letters.{among}
-use Rattle.directory.specs.Directory.{entry, bears, named, Filed, filed, register_of, beside, is_right_for}
+use Rattle.directory.specs.Directory.{entry, directory_of, bears, named, Filed, filed, register_of, beside, is_right_for}
 use Rattle.directory.proofs.Laws.{right_is}
-use Rattle.dirsound.specs.Check.{also_right, checked_filed, is_sound_filed, SoundFiled}
-use Rattle.dirsound.proofs.Exactly.{sound_filed_so}
+use Rattle.dirsound.specs.Check.{also_right, checked_filed, is_sound_filed}
 use Rattle.dirrows.specs.Calls.{entered, reweighed, add_edge_filed, set_edge_weight_filed, clear_edges_filed, clear_filed}
 use Rattle.dirfind.specs.Find.{update_edge_filed}
 use Rattle.dirremoval.specs.Removal.{remove_edge_filed}
 use Rattle.bynumber.specs.Numbers.{find_number, remove_number}
-use Rattle.dirstripping.specs.Stripping.{refiled}
-use Rattle.dirclosing.specs.Closing.{remove_node_filed}
+use Rattle.dirclosing.specs.Closing.{refiled, remove_node_filed}
+use Rattle.dirclosing.proofs.Kept.{sound_so}
 use Rattle.dirimage.specs.Calls.{image_write_filed, image_read_filed}
 use Rattle.dirimage.specs.Load.{load_left, LoadEnds, stays, goes}
 use Rattle.dirimage.proofs.Load.{load_ends}
@@ -132,22 +131,23 @@ loading : (f : Filed) (o : Out Unit Filed) → LoadEnds f o
 loading f o (stays z s) = served (ap (λ (t : Told Unit). t.number) z)
 loading f o (goes why i e) = refused_by (refusal_no why) i e
 
--- a call that is refused leaves a right directory as it was
-pub refiling : {A : Type 0} {zeros : A} {numbers : List ℕ} (f : Filed) (items : List ℕ) (o : Out A (Net × List ℕ)) → SoundFiled f
-    → Refuses numbers zeros (f.net, items) o → Refuses numbers zeros (f, items) (refiled (length f.directory) o)
-refiling f items o S (served z) = served z
-refiling {zeros = zeros} f items o S (refused_by why i e) =
-    let g = f.net in
-    let d = right_is (register_of g) g.m f.directory S.2 (small g S.0) in
-    refused_by why i (rw e (ap (λ c. refusal zeros (filed g c, items) why) (sym d)))
-
+-- a node's removal that is refused leaves a right directory as it was
 removing_node : (f : Filed) (a : ℕ) (items : List ℕ) → Refuses (1 ∷ 3 ∷ 6 ∷ 7 ∷ []) (pos 0, 0, 0) (f, items) (remove_node_filed f a items)
 unfolding remove_node_filed
 removing_node f a items =
     let g = f.net in
     if_not (fits g) 1 refl
     (if_not (ltb a g.n) 3 refl
-    (passing (is_sound_filed f) (by_number 6 refl) (λ s. refiling f items _ (sound_filed_so f s) (demand_1.remove-node g a items))))
+    (passing (is_sound_filed f) (by_number 6 refl) (λ s.
+    let S = sound_so f s in
+    go (remove_node g a items) (demand_1.remove-node g a items) (right_is (register_of g) g.m f.directory S.2 (small g S.0)))))
+  where
+    go : (o : Closed) → Refuses (1 ∷ 3 ∷ 6 ∷ 7 ∷ []) (pos 0, 0, 0) (f.net, items) o
+        → f.directory ≡ directory_of (length f.directory) (register_of f.net) f.net.m
+        → Refuses (1 ∷ 3 ∷ 6 ∷ 7 ∷ []) (pos 0, 0, 0) (f, items) (refiled (length f.directory) o)
+    go o (served z) d = served z
+    go o (refused_by why i e) d =
+        refused_by why i (rw e (ap (λ c. refusal (pos 0, 0, 0) (filed f.net c, items) why) (sym d)))
 
 pub demand_1_filed : (f : Filed) → Demand1Filed f
 unfolding add_edge_filed update_edge_filed set_edge_weight_filed remove_edge_filed clear_edges_filed clear_filed checked_filed image_write_filed

@@ -11,7 +11,7 @@ use Rattle.index.specs.Index.{END, is_end}
 use Rattle.tables.specs.Net.{Net}
 use Rattle.tables.specs.Answers.{Out, out, unless}
 use Rattle.directory.specs.Directory.{entry, row_named, Filed, filed, register_of, beside}
-use Rattle.tables.specs.declared.parts.Claim.TheVariants as Claim·
+use Rattle.dirrows.specs.declared.parts.Claim.TheVariants as Claim·
 use Rattle.dirrows.specs.Calls.{claimed, if_free, reentered, reweighed}
 use Rattle.demands.specs.Demand1.{refusal}
 use Rattle.demands.specs.Wish1.{First, Judged, Reweighed}

@@ -17,5 +17,3 @@ pub mod ByNumber
 pub mod Wish1
 pub mod Wish1Cases
 pub mod Wish6
-pub mod Wish7
-pub mod Wish7Cases

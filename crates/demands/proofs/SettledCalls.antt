@@ -5,15 +5,11 @@ use Rattle.tables.specs.Net.{net}
 use Rattle.tables.specs.Answers.{out, told_node, told_edge, told_change, told_items}
 use Rattle.walker.specs.Steps.{step}
 use Rattle.removal.specs.Removal.{told_edge_removed}
-use Rattle.stripping.specs.Stripping.{told_node_stripped}
-use Rattle.dropping.specs.Dropping.{told_node_dropped}
 use Rattle.closing.specs.Closing.{told_node_removed}
 use Rattle.tables.proofs.Told.{node_told_once, edge_told_once, node_weight_told_once, edge_weight_told_once, ends_told_once, change_told_once, items_told_once}
 use Rattle.find.proofs.Told.{contains_told_once}
 use Rattle.walker.proofs.Told.{begun_told_once, step_told-once, summed_told_once}
 use Rattle.removal.proofs.Told.{edge_removed_told_once}
-use Rattle.stripping.proofs.Told.{node_stripped_told_once}
-use Rattle.dropping.proofs.Told.{node_dropped_told_once}
 use Rattle.closing.proofs.Told.{node_removed_told_once}
 use Rattle.index.proofs as index
 use Rattle.lookups.proofs as lookups
@@ -24,12 +20,10 @@ use Rattle.walker.proofs as walker
 use Rattle.lent.proofs as lent
 use Rattle.sound.proofs as sound
 use Rattle.removal.proofs as removal
-use Rattle.stripping.proofs as stripping
-use Rattle.dropping.proofs as dropping
 use Rattle.closing.proofs as closing
 use Rattle.image.proofs as image
 use Rattle.demands.specs.Settles.{Ensures, SettlesAll, SettlesByHand}
-use Rattle.demands.proofs.Alike.{alike, answers-alike, told-alike, all_columns, node_columns, edge_columns, last_columns, no_columns}
+use Rattle.demands.proofs.Alike.{alike, answers-alike, told-alike, all_columns, node_columns, edge_columns, no_columns}
 
 pub node-index : SettlesAll index.NodeIndex.index.ended index.NodeIndex.index.Reads.Pre index.NodeIndex.index.Reads.Post
 node-index = (λ κs given. tt, λ κs given x y p q. answers-alike p q)
@@ -142,12 +136,6 @@ check = (λ κs given. tt, λ κs given x y p q. answers-alike p q)
 
 pub remove-edge : SettlesAll removal.remove_edge.ended removal.remove_edge.Reads.Pre removal.remove_edge.Reads.Post
 remove-edge = (λ κs given. tt, λ κs given x y p q. ap (λ o. (o.0, edge_columns o.1 _)) (told-alike told_edge_removed edge_removed_told_once p q))
-
-pub strip-node : SettlesAll stripping.strip_node.ended stripping.strip_node.Reads.Pre stripping.strip_node.Reads.Post
-strip-node = (λ κs given. tt, λ κs given x y p q. ap (λ o. (o.0, edge_columns o.1.0 (_, (o.1.1, _)))) (told-alike told_node_stripped node_stripped_told_once p q))
-
-pub drop-node : SettlesAll dropping.drop_node.ended dropping.drop_node.Reads.Pre dropping.drop_node.Reads.Post
-drop-node = (λ κs given. tt, λ κs given x y p q. ap (λ o. (o.0, last_columns o.1 _)) (told-alike told_node_dropped node_dropped_told_once p q))
 
 pub remove-node : SettlesAll closing.remove_node.ended closing.remove_node.Reads.Pre closing.remove_node.Reads.Post
 remove-node = (λ κs given. tt, λ κs given x y p q. ap (λ o. (o.0, all_columns o.1.0 (_, (o.1.1, _)))) (told-alike told_node_removed node_removed_told_once p q))

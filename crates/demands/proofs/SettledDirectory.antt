@@ -3,17 +3,17 @@ use Prim.{tt}
 use mathlib.Core.Path.{◌≡◌, refl, sym, ap, ◌∙◌}
 use mathlib.Core.List.{[]}
 use lib.ListN.{length}
+use Rattle.index.proofs.Laws.{untold, untold_refusal}
 use Rattle.tables.specs.Answers.{told_edge, told_change, told_items, onto}
-use Rattle.tables.proofs.Told.{edge_told_once, change_told_once, items_told_once, claim_told_once}
+use Rattle.tables.proofs.Told.{told-once, edge_told_once, change_told_once, items_told_once}
 use Rattle.removal.specs.Removal.{told_edge_removed}
 use Rattle.removal.proofs.Told.{edge_removed_told_once}
-use Rattle.stripping.specs.Stripping.{told_node_stripped}
-use Rattle.stripping.proofs.Told.{node_stripped_told_once}
-use Rattle.dropping.specs.Dropping.{told_node_dropped}
-use Rattle.dropping.proofs.Told.{node_dropped_told_once}
 use Rattle.closing.specs.Closing.{told_node_removed}
 use Rattle.closing.proofs.Told.{node_removed_told_once}
-use Rattle.directory.specs.Directory.{register_in, directory_of}
+use Rattle.directory.specs.Directory.{register_in, register_of, directory_of}
+use Rattle.dirrows.specs.declared.parts.Claim.{Claim}
+use Rattle.dirrows.specs.declared.parts.Claim.TheVariants as Claim·
+use Rattle.dirrows.specs.Parts.{claim_no}
 use Rattle.dirremoval.specs.Parts.{directory_after}
 use Rattle.directory.proofs as directory
 use Rattle.dirsound.proofs as dirsound
@@ -22,11 +22,10 @@ use Rattle.dirfind.proofs as dirfind
 use Rattle.dirremoval.proofs as dirremoval
 use Rattle.bynumber.proofs as bynumber
 use Rattle.dirstripping.proofs as dirstripping
-use Rattle.dirdropping.proofs as dirdropping
 use Rattle.dirclosing.proofs as dirclosing
 use Rattle.dirimage.proofs as dirimage
 use Rattle.demands.specs.Settles.{Settles, SettlesAll}
-use Rattle.demands.proofs.Alike.{alike, answers-alike, told-alike, all_columns, edge_columns, last_columns, no_columns}
+use Rattle.demands.proofs.Alike.{alike, answers-alike, told-alike, all_columns, edge_columns, no_columns}
 
 pub dir_check : SettlesAll dirsound.check.ended dirsound.check.Reads.Pre dirsound.check.Reads.Post
 dir_check = (λ κs given. tt, λ κs given x y p q. answers-alike p q)
@@ -62,18 +61,6 @@ pub remove-number : SettlesAll bynumber.remove_number.ended bynumber.remove_numb
 remove-number = (
   λ κs given. tt,
   λ κs given x y p q. ap (λ o. (o.0, edge_columns o.1.net (o.1.directory, _))) (told-alike told_edge_removed edge_removed_told_once p q),
-)
-
-pub dir_strip_node : SettlesAll dirstripping.strip_node.ended dirstripping.strip_node.Reads.Pre dirstripping.strip_node.Reads.Post
-dir_strip_node = (
-  λ κs given. tt,
-  λ κs given x y p q. ap (λ o. (o.0, edge_columns o.1.0.net (o.1.0.directory, (_, (o.1.1, _))))) (told-alike told_node_stripped node_stripped_told_once p q),
-)
-
-pub dir_drop_node : SettlesAll dirdropping.drop_node.ended dirdropping.drop_node.Reads.Pre dirdropping.drop_node.Reads.Post
-dir_drop_node = (
-  λ κs given. tt,
-  λ κs given x y p q. ap (λ o. (o.0, last_columns o.1.net _)) (told-alike told_node_dropped node_dropped_told_once p q),
 )
 
 pub dir_remove_node : SettlesAll dirclosing.remove_node.ended dirclosing.remove_node.Reads.Pre dirclosing.remove_node.Reads.Post
@@ -116,6 +103,14 @@ directory_is_right κs given x y p q = answers-alike p q
 pub directory_follow : Settles directory.parts.follow.ended directory.parts.follow.Reads.Post
 directory_follow κs given x y p q = λ i. (_, (alike p q i, _))
 
+-- no two claims have one number
+claim_is : (r : Claim) → untold Claim·.Free Claim·.Refused (claim_no r) ≡ r
+claim_is Claim·.Free = refl
+claim_is (Claim·.Refused why) = untold_refusal Claim·.Free Claim·.Refused why
+
+claim_told_once : (r s : Claim) → claim_no r ≡ claim_no s → r ≡ s
+claim_told_once = told-once claim_no (untold Claim·.Free Claim·.Refused) claim_is
+
 pub dirrows_addable : Settles dirrows.parts.addable.ended dirrows.parts.addable.Reads.Post
 dirrows_addable κs given x y p q = ap (λ r. (r, _)) (claim_told_once _ _ (alike (p 0) (q 0)))
 
@@ -147,11 +142,14 @@ dirstripping_strip κs given x y p q =
       ((e i).rest.heads, ((e i).rest.registers, ((e i).rest.links, ((e i).rest.ends, (_, ((e i).rest.m, (d i, (_, (items i, _))))))))),
     )
 
-pub dirstripping_strippable : Settles dirstripping.parts.strippable.ended dirstripping.parts.strippable.Reads.Post
-dirstripping_strippable κs given x y p q = ap (λ r. (r, _)) (claim_told_once _ _ (alike p q))
+pub dirclosing_take_node : Settles dirclosing.parts.take_node.ended dirclosing.parts.take_node.Reads.Post
+dirclosing_take_node κs given x y p q =
+    let e = told-alike told_node_removed node_removed_told_once p.closes q.closes in
+    let d = p.directory_is ∙ ap (λ o. directory_of (length given.1.1.1.1.1.1.1.0.now) (register_of o.1.0) o.1.0.m) e ∙ sym q.directory_is in
+    λ i. ((e i).0, all_columns (e i).1.0 (d i, (_, ((e i).1.1, _))))
 
-pub dirdropping_droppable : Settles dirdropping.parts.droppable.ended dirdropping.parts.droppable.Reads.Post
-dirdropping_droppable κs given x y p q = ap (λ r. (r, _)) (claim_told_once _ _ (alike p q))
+pub dirclosing_removable : Settles dirclosing.parts.removable.ended dirclosing.parts.removable.Reads.Post
+dirclosing_removable κs given x y p q = ap (λ r. (r, _)) (claim_told_once _ _ (alike p q))
 
 pub dirimage_fill_by : Settles dirimage.parts.fill_by.ended dirimage.parts.fill_by.Reads.Post
 dirimage_fill_by κs given x y p q = ap (λ o. (o.0, all_columns o.1.net (o.1.directory, _))) (told-alike told_change change_told_once p q)

@@ -7,7 +7,7 @@ use Rattle.exportlists.proofs as exportlists
 use Rattle.exportremovals.proofs as exportremovals
 use Rattle.exportdirectory.proofs as exportdirectory
 use Rattle.demands.specs.Settles.{Settles, SettlesAll}
-use Rattle.demands.proofs.Alike.{alike, answers-alike, all_columns, node_columns, edge_columns, last_columns, no_columns}
+use Rattle.demands.proofs.Alike.{alike, answers-alike, all_columns, node_columns, edge_columns, no_columns}
 
 pub cells_tell_node : Settles cells.parts.tell_node.ended cells.parts.tell_node.Reads.Post
 cells_tell_node κs given x y p q = ap (λ o. (o.number, (_, (o.values, _)))) (alike p q)
@@ -56,12 +56,6 @@ cells_tell_edge_removed κs given x y p q = ap (λ o. (o.number, (_, (o.values.0
 
 pub cells_tell_node_removed : Settles cells.parts.tell_node_removed.ended cells.parts.tell_node_removed.Reads.Post
 cells_tell_node_removed κs given x y p q = ap (λ o. (o.number, (_, (o.values.0, (o.values.1, (o.values.2, _)))))) (alike p q)
-
-pub cells_tell_node_stripped : Settles cells.parts.tell_node_stripped.ended cells.parts.tell_node_stripped.Reads.Post
-cells_tell_node_stripped κs given x y p q = ap (λ o. (o.number, (_, (o.values.0, (o.values.1, _))))) (alike p q)
-
-pub cells_tell_node_dropped : Settles cells.parts.tell_node_dropped.ended cells.parts.tell_node_dropped.Reads.Post
-cells_tell_node_dropped κs given x y p q = ap (λ o. (o.number, (_, (o.values.0, (o.values.1, _))))) (alike p q)
 
 pub net-node_weight : SettlesAll exportrows.net_node_weight.ended exportrows.net_node_weight.Reads.Pre exportrows.net_node_weight.Reads.Post
 net-node_weight = (λ κs given. tt, λ κs given x y p q. ap (λ o. (o.number, (_, (_, (_, (_, (_, (_, (_, (_, (o.values, _))))))))))) (alike p q))
@@ -147,15 +141,6 @@ net-remove_edge = (
   λ κs given x y p q. ap (λ o. (o.answer.number, edge_columns o.after (_, (o.answer.values.0, (o.answer.values.1, (o.answer.values.2, _)))))) (alike p q),
 )
 
-pub net-strip_node : SettlesAll exportremovals.net_strip_node.ended exportremovals.net_strip_node.Reads.Pre exportremovals.net_strip_node.Reads.Post
-net-strip_node = (
-  λ κs given. tt,
-  λ κs given x y p q. ap (λ o. (o.answer.number, edge_columns o.after.0 (_, (o.after.1, (o.answer.values.0, (o.answer.values.1, _)))))) (alike p q),
-)
-
-pub net-drop_node : SettlesAll exportremovals.net_drop_node.ended exportremovals.net_drop_node.Reads.Pre exportremovals.net_drop_node.Reads.Post
-net-drop_node = (λ κs given. tt, λ κs given x y p q. ap (λ o. (o.answer.number, last_columns o.after (_, (o.answer.values.0, (o.answer.values.1, _))))) (alike p q))
-
 pub net-remove_node : SettlesAll exportremovals.net_remove_node.ended exportremovals.net_remove_node.Reads.Pre exportremovals.net_remove_node.Reads.Post
 net-remove_node = (
   λ κs given. tt,
@@ -210,23 +195,6 @@ net_dir_remove_number = (
   λ κs given. tt,
   λ κs given x y p q.
       ap (λ o. (o.answer.number, edge_columns o.after.net (o.after.directory, (_, (o.answer.values.0, (o.answer.values.1, (o.answer.values.2, _))))))) (alike p q),
-)
-
-pub net_dir_strip_node : SettlesAll exportdirectory.net_dir_strip_node.ended exportdirectory.net_dir_strip_node.Reads.Pre exportdirectory.net_dir_strip_node.Reads.Post
-net_dir_strip_node = (
-  λ κs given. tt,
-  λ κs given x y p q.
-      ap (λ o. (
-        o.answer.number,
-        edge_columns o.after.0.net (o.after.0.directory, (_, (o.after.1, (o.answer.values.0, (o.answer.values.1, _))))),
-      ))
-      (alike p q),
-)
-
-pub net_dir_drop_node : SettlesAll exportdirectory.net_dir_drop_node.ended exportdirectory.net_dir_drop_node.Reads.Pre exportdirectory.net_dir_drop_node.Reads.Post
-net_dir_drop_node = (
-  λ κs given. tt,
-  λ κs given x y p q. ap (λ o. (o.answer.number, last_columns o.after.net (_, (_, (o.answer.values.0, (o.answer.values.1, _)))))) (alike p q),
 )
 
 pub net_dir_remove_node : SettlesAll exportdirectory.net_dir_remove_node.ended exportdirectory.net_dir_remove_node.Reads.Pre exportdirectory.net_dir_remove_node.Reads.Post

@@ -6,8 +6,10 @@ use mathlib.Core.List.{List, []}
 use lib.ListN.{length}
 use Rattle.tables.specs.Answers.{Out, told_change, told_items, onto}
 use Rattle.removal.specs.Removal.{told_edge_removed}
-use Rattle.tables.proofs.Told.{change_told_once, items_told_once, claim_told_once}
+use Rattle.closing.specs.Closing.{told_node_removed}
+use Rattle.tables.proofs.Told.{change_told_once, items_told_once}
 use Rattle.removal.proofs.Told.{edge_removed_told_once}
+use Rattle.closing.proofs.Told.{node_removed_told_once}
 use Rattle.tables.proofs as tables
 use Rattle.lists.proofs as lists
 use Rattle.legs.proofs as legs
@@ -18,6 +20,7 @@ use Rattle.links.proofs as links
 use Rattle.removal.proofs as removal
 use Rattle.stripping.proofs as stripping
 use Rattle.dropping.proofs as dropping
+use Rattle.closing.proofs as closing
 use Rattle.layout.proofs as layout
 use Rattle.imagerows.proofs as imagerows
 use Rattle.loading.proofs as loading
@@ -137,31 +140,23 @@ stripping_strip κs given x y p q =
     let items = p.items_are ∙ ap (λ t. onto t.given given.1.1.1.1.1.1.1.0.now) e ∙ sym q.items_are in
     λ i. (record { rows = (e i).rows; count = count i }, ((e i).rest.heads, ((e i).rest.registers, ((e i).rest.links, ((e i).rest.ends, (_, ((e i).rest.m, (_, (items i, _)))))))))
 
-pub stripping_strippable : Settles stripping.parts.strippable.ended stripping.parts.strippable.Reads.Post
-stripping_strippable κs given x y p q = ap (λ r. (r, _)) (claim_told_once _ _ (alike p q))
-
 pub dropping_renumber : Settles dropping.parts.renumber.ended dropping.parts.renumber.Reads.Post
 dropping_renumber κs given x y p q = λ i. (alike p.rows_are q.rows_are i, (_, (alike p.ends_are q.ends_are i, _)))
 
 pub dropping_move_node : Settles dropping.parts.move_node.ended dropping.parts.move_node.Reads.Post
 dropping_move_node κs given x y p q = λ i. (_, (alike p.weights_are q.weights_are i, (alike p.heads_are q.heads_are i, _)))
 
-pub dropping_is_bare : Settles dropping.parts.is_bare.ended dropping.parts.is_bare.Reads.Post
-dropping_is_bare κs given x y p q = answers-alike p q
-
-pub dropping_droppable : Settles dropping.parts.droppable.ended dropping.parts.droppable.Reads.Post
-dropping_droppable κs given x y p q = ap (λ r. (r, _)) (claim_told_once _ _ (alike p q))
-
-pub dropping_drop : Settles dropping.parts.drop.ended dropping.parts.drop.Reads.Post
-dropping_drop κs given x y p q =
-    let weight = alike p.weight_is q.weight_is in
-    let rows = alike p.rows_are q.rows_are in
+pub dropping_drop_node : Settles dropping.parts.drop_node.ended dropping.parts.drop_node.Reads.Post
+dropping_drop_node κs given x y p q =
     let weights = alike p.moved.weights_are q.moved.weights_are in
     let heads = alike p.moved.heads_are q.moved.heads_are in
-    λ i. (
-      record { weight = weight i; rows = rows i },
-      (weights i, (heads i, (_, (alike p.ends_are q.ends_are i, (alike p.nodes q.nodes i, _))))),
-    )
+    λ i. (alike p.rows_are q.rows_are i, (weights i, (heads i, (_, (alike p.ends_are q.ends_are i, (alike p.nodes q.nodes i, _))))))
+
+pub closing_take_node : Settles closing.parts.take_node.ended closing.parts.take_node.Reads.Post
+closing_take_node κs given x y p q = ap (λ o. (o.0, all_columns o.1.0 (_, (o.1.1, _)))) (told-alike told_node_removed node_removed_told_once p q)
+
+pub closing_close : Settles closing.parts.close.ended closing.parts.close.Reads.Post
+closing_close κs given x y p q = ap (λ o. (o.0, all_columns o.1.0 (_, (o.1.1, _)))) (told-alike told_node_removed node_removed_told_once p q)
 
 pub image_length_lem : SettlesAll layout.image_length.ended layout.image_length.Reads.Pre layout.image_length.Reads.Post
 image_length_lem = (λ κs given. tt, λ κs given x y p q. answers-alike p q)

@@ -6,5 +6,3 @@ pub mod Starred
 pub mod Wish1
 pub mod Wish1Cases
 pub mod Wish6
-pub mod Wish7
-pub mod Wish7Cases

@@ -3,14 +3,18 @@ use Rattle.std.specs.Prelude.{ℕ, List, ltb, ℤ, pos, length}
 use Rattle.index.specs.declared.Refusal.TheVariants.{Tables, NoNode, Broken}
 use Rattle.tables.specs.Net.{fits}
 use Rattle.tables.specs.Answers.{Out, out, refused, unless}
-use Rattle.closing.specs.Closing.{remove_node}
-use Rattle.directory.specs.Directory.{Filed}
+use Rattle.closing.specs.Closing.{Closed, remove_node}
+use Rattle.directory.specs.Directory.{Filed, filed, register_of, directory_of}
 use Rattle.dirsound.specs.Check.{is_sound_filed}
-use Rattle.dirstripping.specs.Stripping.{refiled}
 
 -- what removing a node tells and leaves; the directory stands beside the network
 abbrev pub ClosedFiled : Type 0
 ClosedFiled = Out (ℤ × ℕ × ℕ) (Filed × List ℕ)
+
+-- what is left has the directory of its rows, of as many cells; so it follows every edge that went and every row that moved
+abbrev pub refiled : ℕ → Closed → ClosedFiled
+refiled cells o =
+    out o.answer (filed o.after.0 (directory_of cells (register_of o.after.0) o.after.0.m), o.after.1)
 
 -- taking node a out: 1, 3, 6 exactly where the network is not sound or its directory not right; then as without a directory, 7
 unfoldable pub remove_node_filed : Filed → ℕ → List ℕ → ClosedFiled

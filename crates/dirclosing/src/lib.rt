@@ -1,4 +1,4 @@
-// Taking a node with its edges out of a network with a directory: it is stripped, which the directory follows, then dropped.
+// Taking a node out of a network with a directory.
 ghost use Rattle.std.specs.Prelude.{◌≡◌};
 ghost use Rattle.tables.specs.Net.{entering, leaving};
 ghost use Rattle.tables.specs.Answers.{out};
@@ -7,10 +7,11 @@ ghost use Rattle.directory.specs.Directory.{filed};
 ghost use Rattle.dirclosing.specs.Closing.{remove_node_filed};
 
 use closing::NodeRemoved;
-use dirstripping::parts::{strip, strippable};
-use dropping::parts::drop;
+use dirrows::parts::Claim;
 use index::NodeIndex;
-use tables::parts::Claim;
+use parts::{removable, take_node};
+
+pub mod parts;
 
 // Takes out node a with all its edges; the last node takes its place. Only a sound network with a right directory is changed.
 pub fn remove_node(
@@ -28,20 +29,12 @@ pub fn remove_node(
     ensures { out (told_node_removed result) (filed (leaving weights heads registers links ends n.new m.new) directory.new, items.new)
         ≡ remove_node_filed (filed (entering weights heads registers links ends n.old m.old) directory.old) a.0 items.old }
 {
-    let nodes = *n;
-    // A node stripped is bare: nothing else stands against its dropping.
-    match strippable(
-        weights, heads, registers, links, ends, nodes, *m, directory, a, items,
+    match removable(
+        weights, heads, registers, links, ends, *n, *m, directory, a, items,
     ) {
         Claim::Refused(why) => NodeRemoved::Refused(why),
-        Claim::Free => {
-            let stripped = strip(heads, registers, links, ends, nodes, m, directory, a, items);
-            let dropped = drop(weights, heads, links, ends, n, *m, a);
-            NodeRemoved::Node(
-                dropped.weight,
-                stripped.rows + dropped.rows as u64,
-                stripped.count,
-            )
-        }
+        Claim::Free => take_node(
+            weights, heads, registers, links, ends, n, m, directory, a, items,
+        ),
     }
 }

@@ -22,7 +22,7 @@ use Rattle.find.specs.Find.{on, sought, find_edge, update_edge}
 use Rattle.find.proofs.Laws.{sought-below}
 use Rattle.directory.specs.Directory.{Filed, filed}
 use Rattle.directory.proofs.Beside.{beside-refused, beside-served}
-use Rattle.tables.specs.declared.parts.Claim.{Claim}
+use Rattle.dirrows.specs.declared.parts.Claim.{Claim}
 use Rattle.dirrows.specs.Calls.{entered, reweighed, add_edge_filed}
 use Rattle.dirrows.specs.Parts.{Reweighs}
 use Rattle.dirrows.proofs.Ways.{add_ends, granted, reweighed_so}

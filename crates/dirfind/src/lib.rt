@@ -5,11 +5,10 @@ ghost use Rattle.tables.specs.Answers.{out, told_edge};
 ghost use Rattle.directory.specs.Directory.{filed};
 ghost use Rattle.dirfind.specs.Find.{update_edge_filed};
 
-use dirrows::parts::reweigh;
+use dirrows::parts::{Claim, reweigh};
 use find::find_edge;
 use index::{NodeIndex, Refusal};
 use tables::EdgeAnswer;
-use tables::parts::Claim;
 
 // Gives the edge that is found the register number w, even in a full table; else adds one. Either is refused for what stands against the number.
 pub fn update_edge(

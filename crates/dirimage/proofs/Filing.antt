@@ -18,9 +18,9 @@ use Rattle.tables.specs.Answers.{unless}
 use Rattle.directory.specs.Directory.{entry, every, directory_of, Right}
 use Rattle.directory.proofs.Every.{every-says, every_so}
 use Rattle.directory.proofs.Laws.{directory_length, has_cell_lem, apart, right_none, right_built}
-use Rattle.tables.specs.declared.parts.Claim.{Claim}
-use Rattle.tables.specs.declared.parts.Claim.TheVariants as Claim·
-use Rattle.tables.specs.Parts.{claim_no}
+use Rattle.dirrows.specs.declared.parts.Claim.{Claim}
+use Rattle.dirrows.specs.declared.parts.Claim.TheVariants as Claim·
+use Rattle.dirrows.specs.Parts.{claim_no}
 use Rattle.dirimage.specs.Loading.{has_cell, is_first, filing}
 use Rattle.dirimage.specs.Load.{SomeBeyond, AllBelow, BorneTwice}
 

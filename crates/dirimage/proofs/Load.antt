@@ -32,9 +32,9 @@ use Rattle.directory.specs.Directory.{none, Filed, filed, register_of, RightFor,
 use Rattle.directory.proofs.Every.{right_says, right_so}
 use Rattle.directory.proofs.Laws.{directory_length}
 use Rattle.dirsound.specs.Check.{Follows}
-use Rattle.tables.specs.declared.parts.Claim.{Claim}
-use Rattle.tables.specs.declared.parts.Claim.TheVariants as Claim·
-use Rattle.tables.specs.Parts.{claim_no}
+use Rattle.dirrows.specs.declared.parts.Claim.{Claim}
+use Rattle.dirrows.specs.declared.parts.Claim.TheVariants as Claim·
+use Rattle.dirrows.specs.Parts.{claim_no}
 use Rattle.dirimage.specs.Loading.{filing}
 use Rattle.dirimage.specs.Calls.{kept, settled_filed, filled_by, image_read_filed, image_write_filed}
 use Rattle.dirimage.specs.Load.{load_left, LoadEnds, stays, goes, LoadTells}

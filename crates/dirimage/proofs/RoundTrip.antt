@@ -18,7 +18,7 @@ use Rattle.image.proofs.Copies.{write_says}
 use Rattle.image.proofs.RoundTrip.{written_read, read_written}
 use Rattle.directory.specs.Directory.{Right, Filed, register_of, RightFor}
 use Rattle.directory.proofs.Laws.{right_only}
-use Rattle.tables.specs.Parts.{claim_no}
+use Rattle.dirrows.specs.Parts.{claim_no}
 use Rattle.dirimage.specs.Calls.{image_read_filed, image_write_filed}
 use Rattle.dirimage.proofs.Filing.{right_files}
 use Rattle.dirimage.proofs.Load.{brought, load_as, load_right, load_length, write_as, write_served}

@@ -20,7 +20,7 @@ use Rattle.loading.specs.Loading.{vacated}
 use Rattle.image.specs.Calls.{image_read}
 use Rattle.image.proofs.Copies.{read_says, read_is}
 use Rattle.directory.specs.Directory.{none, directory_of, Filed, filed, register_of}
-use Rattle.tables.specs.declared.parts.Claim.TheVariants as Claim·
+use Rattle.dirrows.specs.declared.parts.Claim.TheVariants as Claim·
 use Rattle.dirimage.specs.Loading.{filing}
 use Rattle.dirimage.specs.Calls.{settled_filed, entries_left, filled_by, image_read_filed}
 

@@ -11,7 +11,7 @@ use Rattle.index.specs.declared.Refusal.TheVariants.{Taken, Beyond}
 use Rattle.index.specs.Index.{END, is_end}
 use Rattle.directory.specs.Directory.{entry, every, directory_of}
 use Rattle.directory.proofs.Every.{every_more, not_every}
-use Rattle.tables.specs.declared.parts.Claim.TheVariants as Claim·
+use Rattle.dirrows.specs.declared.parts.Claim.TheVariants as Claim·
 use Rattle.dirimage.specs.Loading.{has_cell, is_first, filing}
 use Rattle.dirimage.proofs.Filing.{none-borne}
 

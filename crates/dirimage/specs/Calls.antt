@@ -7,8 +7,8 @@ use Rattle.tables.specs.Answers.{Out, out, done, refused, unless}
 use Rattle.loading.specs.Loading.{vacated}
 use Rattle.image.specs.Calls.{image_write, image_read}
 use Rattle.directory.specs.Directory.{none, directory_of, Filed, filed, register_of, is_right_for}
-use Rattle.tables.specs.declared.parts.Claim.{Claim}
-use Rattle.tables.specs.declared.parts.Claim.TheVariants as Claim·
+use Rattle.dirrows.specs.declared.parts.Claim.{Claim}
+use Rattle.dirrows.specs.declared.parts.Claim.TheVariants as Claim·
 use Rattle.dirimage.specs.Loading.{filing}
 
 -- the image into an output table: 1, 6 where the directory is not right, then as without a directory: 6, 7

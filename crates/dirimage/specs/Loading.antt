@@ -3,8 +3,8 @@ use Rattle.std.specs.Prelude.{ℕ, Bool, not, eqb, ltb}
 use Rattle.index.specs.declared.Refusal.TheVariants.{Taken, Beyond}
 use Rattle.tables.specs.Answers.{unless}
 use Rattle.directory.specs.Directory.{every}
-use Rattle.tables.specs.declared.parts.Claim.{Claim}
-use Rattle.tables.specs.declared.parts.Claim.TheVariants as Claim·
+use Rattle.dirrows.specs.declared.parts.Claim.{Claim}
+use Rattle.dirrows.specs.declared.parts.Claim.TheVariants as Claim·
 
 -- the number of row e has one of so many cells
 abbrev pub has_cell : (ℕ → ℕ) → (cells e : ℕ) → Bool

@@ -4,8 +4,8 @@ use Rattle.tables.specs.declared.answers.Changed.{Changed}
 use Rattle.tables.specs.declared.answers.Changed.TheVariants as Changed·
 use Rattle.tables.specs.Net.{Lent, fit}
 use Rattle.directory.specs.Directory.{none, directory_of}
-use Rattle.tables.specs.declared.parts.Claim.{Claim}
-use Rattle.tables.specs.declared.parts.Claim.TheVariants as Claim·
+use Rattle.dirrows.specs.declared.parts.Claim.{Claim}
+use Rattle.dirrows.specs.declared.parts.Claim.TheVariants as Claim·
 use Rattle.dirrows.specs.Parts.{if_granted}
 use Rattle.dirimage.specs.Loading.{filing}
 

@@ -8,10 +8,11 @@ ghost use Rattle.dirimage.specs.Calls.{entries_left, filled_by};
 ghost use Rattle.dirimage.specs.Parts.{Enters, Files, LeavesFit};
 
 use directory::parts::{enter, entry};
+use dirrows::parts::Claim;
 use index::{EdgeIndex, Refusal};
 use loading::parts::empty;
 use tables::Changed;
-use tables::parts::{Claim, fill};
+use tables::parts::fill;
 
 // The rows are entered in turn. A number without a cell is 12 at once; one that is borne twice is 11, but only once every number has a cell.
 fn enter_rows(registers: &[u32], m: u32, directory: &mut [u32]) -> Claim

@@ -26,8 +26,8 @@ use Rattle.rows.specs.Calls.{linked, add_edge, clear_edges, clear}
 use Rattle.directory.specs.Directory.{entry, none, row_named, RightFor, Filed, filed, register_of, beside}
 use Rattle.directory.proofs.Laws.{right_more, right_again, right_none}
 use Rattle.directory.proofs.Beside.{beside-length}
-use Rattle.tables.specs.declared.parts.Claim.{Claim}
-use Rattle.tables.specs.declared.parts.Claim.TheVariants as Claim·
+use Rattle.dirrows.specs.declared.parts.Claim.{Claim}
+use Rattle.dirrows.specs.declared.parts.Claim.TheVariants as Claim·
 use Rattle.dirrows.specs.Calls.{claimed, if_free, entered, reclaimed, reentered, reweighed, all_out}
 use Rattle.dirrows.specs.Calls.{add_edge_filed, set_edge_weight_filed, clear_edges_filed, clear_filed}
 use Rattle.dirrows.proofs.Ways.{claim_beyond, claim_none, claim_own, claim_taken, add_ends}

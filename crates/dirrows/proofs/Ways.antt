@@ -22,11 +22,10 @@ use Rattle.lookups.specs.Lookups.{set_edge_weight}
 use Rattle.rows.specs.Calls.{linked, add_edge}
 use Rattle.directory.specs.Directory.{entry, none, Filed, filed}
 use Rattle.directory.proofs.Beside.{beside-refused, beside-served}
-use Rattle.tables.specs.declared.parts.Claim.{Claim}
-use Rattle.tables.specs.declared.parts.Claim.TheVariants as Claim·
+use Rattle.dirrows.specs.declared.parts.Claim.{Claim}
+use Rattle.dirrows.specs.declared.parts.Claim.TheVariants as Claim·
 use Rattle.dirrows.specs.Calls.{claimed, entered, reweighed, all_out, add_edge_filed, set_edge_weight_filed}
-use Rattle.tables.specs.Parts.{claim_no}
-use Rattle.dirrows.specs.Parts.{Adds, Reweighs}
+use Rattle.dirrows.specs.Parts.{claim_no, Adds, Reweighs}
 
 -- a claim, by what its entry x is
 module _ (d : List ℕ) (w e : ℕ) where

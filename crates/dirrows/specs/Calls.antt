@@ -8,8 +8,8 @@ use Rattle.tables.specs.Answers.{Out, out, refused, unless}
 use Rattle.lookups.specs.Lookups.{set_edge_weight}
 use Rattle.rows.specs.Calls.{add_edge, clear_edges, clear}
 use Rattle.directory.specs.Directory.{entry, none, row_named, Filed, filed, register_of, beside}
-use Rattle.tables.specs.declared.parts.Claim.{Claim}
-use Rattle.tables.specs.declared.parts.Claim.TheVariants as Claim·
+use Rattle.dirrows.specs.declared.parts.Claim.{Claim}
+use Rattle.dirrows.specs.declared.parts.Claim.TheVariants as Claim·
 
 -- whether row e may have number w: 12 where w is not below the length, 11 where its entry names another row; a new row is claimed for as `END`
 unfoldable pub claimed : List ℕ → (w e : ℕ) → Claim

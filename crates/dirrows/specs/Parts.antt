@@ -1,12 +1,17 @@
 -- What the parts promise.
 use Rattle.std.specs.Prelude.{ℕ, ◌≡◌, List, set}
-use Rattle.tables.specs.Parts.{claim_no}
+use Rattle.index.specs.Refusals.{refusal_no}
 use Rattle.tables.specs.Net.{Lent, Net}
 use Rattle.rows.specs.Calls.{add_edge}
 use Rattle.directory.specs.Directory.{register_in}
-use Rattle.tables.specs.declared.parts.Claim.{Claim}
-use Rattle.tables.specs.declared.parts.Claim.TheVariants as Claim·
+use Rattle.dirrows.specs.declared.parts.Claim.{Claim}
+use Rattle.dirrows.specs.declared.parts.Claim.TheVariants as Claim·
 use Rattle.dirrows.specs.Calls.{reclaimed, reentered}
+
+-- the number of a claim: 0 where it is free
+abbrev pub claim_no : Claim → ℕ
+claim_no Claim·.Free = 0
+claim_no (Claim·.Refused why) = refusal_no why
 
 -- a claim for a new edge has the number by which the call without a directory answers it, whatever its register number
 abbrev pub Adds : Net → (a b : ℕ) → Claim → Type 0

@@ -7,8 +7,8 @@ ghost use Rattle.dirrows.specs.Calls.{add_edge_filed, set_edge_weight_filed, cle
 
 use directory::parts::enter;
 use index::{EdgeIndex, NodeIndex, Refusal};
-use parts::{addable, free_for, reweigh};
-use tables::parts::{Claim, fill, fits, link_edge};
+use parts::{Claim, addable, free_for, reweigh};
+use tables::parts::{fill, fits, link_edge};
 use tables::{Changed, EdgeAnswer};
 
 pub mod parts;

@@ -6,7 +6,14 @@ ghost use Rattle.dirrows.specs.Parts.{Adds, Reweighs};
 
 use directory::parts::{enter, entry, named};
 use index::{EdgeIndex, NodeIndex, Refusal};
-use tables::parts::{Claim, fits};
+use tables::parts::fits;
+
+// What stands against a request: nothing, or the refusal that it gets.
+#[derive(Drop)]
+pub enum Claim {
+    Free,
+    Refused(Refusal),
+}
 
 // What refuses a new edge from a to b, whatever its number: 1, 2, 3.
 pub fn addable(

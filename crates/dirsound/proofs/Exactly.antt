@@ -9,11 +9,10 @@ use Rattle.sound.specs.declared.Checked.{Checked}
 use Rattle.sound.specs.declared.Checked.TheVariants as Checked·
 use Rattle.sound.specs.Sound.{Sound}
 use Rattle.sound.specs.Check.{checked}
-use Rattle.sound.proofs.Accepted.{accepts}
 use Rattle.sound.proofs.Exactly.{sound_accepted, accepted-sound}
 use Rattle.directory.specs.Directory.{Filed, RightFor, is_right_for, register_of}
 use Rattle.directory.proofs.Every.{right_says, right_so}
-use Rattle.dirsound.specs.Check.{also_right, checked_filed, is_sound_filed, SoundFiled}
+use Rattle.dirsound.specs.Check.{also_right, checked_filed, SoundFiled}
 
 pub right_accepted : (f : Filed) (ls : ℕ → ℕ → List ℕ) → fits f.net ≡ true → Sound f.net ls → RightFor f → checked_filed f ≡ Checked·.Accepted (2 * f.net.m)
 unfolding checked_filed
@@ -33,7 +32,3 @@ accepted-right f rows p =
     let q = made_of (checked f.net) (is_right_for f) f.net.n rows p in
     let s = accepted-sound f.net rows q.0 in
     ((s.0, s.1, right_says (register_of f.net) f.net.m f.directory q.1), s.2)
-
--- what passes the test for 6 is sound, and its directory right
-pub sound_filed_so : (f : Filed) → is_sound_filed f ≡ true → SoundFiled f
-sound_filed_so f s = let r = accepts (checked_filed f) s in (accepted-right f r.0 r.1).0

@@ -1,3 +1,2 @@
 pub mod Drop
-pub mod Dropping
 pub mod Parts

@@ -5,7 +5,6 @@ use Rattle.tables.specs.Parts.{NodeRow}
 use Rattle.tables.specs.Rows.{vacant_node, node_row, heads_with}
 use Rattle.lists.specs.Walk.{rows_from}
 use Rattle.removal.specs.Parts.{Count}
-use Rattle.dropping.specs.declared.parts.Dropped.{Dropped}
 use Rattle.dropping.specs.Drop.{ended}
 
 -- the rows of a list get node a as their end of direction k, and are counted
@@ -34,15 +33,12 @@ pub record Droppable (weights heads links ends n m a : ℕ) : Type 0 where
   pub nodes_most : n ≤ node_rows
   pub node : a < n
 
--- a's weight is told; the last node has the number a, and so have the ends of its edges; their rows are counted
-pub record Drops (weights : Lent ℤ) (heads : Lent ℕ) (links : List ℕ) (ends : Lent ℕ) (n : Count) (m a : ℕ) (r : Dropped) : Type 0 where
-  pub weight_is : r.weight ≡ get_or weights.entry.now a (pos 0)
+-- the last node has the number a, and so have the ends of its edges; their rows are counted
+pub record Drops (weights : Lent ℤ) (heads : Lent ℕ) (links : List ℕ) (ends : Lent ℕ) (n : Count) (m a rows : ℕ) : Type 0 where
   pub nodes : n.exit.now ≡ n.entry.now - 1
   pub moved : MovesNode weights heads a (n.entry.now - 1)
-  pub rows_are : r.rows
-      ≡ length (rows_from links m 0 (get_or heads.entry.now (node_cell (n.entry.now - 1) 0) 0))
-      + length (rows_from links m 1 (get_or heads.entry.now (node_cell (n.entry.now - 1) 1) 0))
-  pub few : r.rows ≤ m + m
+  pub rows_are : rows ≡ length (rows_from links m 0 (get_or heads.entry.now (node_cell (n.entry.now - 1) 0) 0)) + length (rows_from links m 1 (get_or heads.entry.now (node_cell (n.entry.now - 1) 1) 0))
+  pub few : rows ≤ m + m
   pub ends_are : ends.exit.now
       ≡ ended 1 a (rows_from links m 1 (get_or heads.entry.now (node_cell (n.entry.now - 1) 1) 0))
       (ended 0 a (rows_from links m 0 (get_or heads.entry.now (node_cell (n.entry.now - 1) 0) 0)) ends.entry.now)

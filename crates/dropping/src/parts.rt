@@ -1,62 +1,11 @@
-// What stands against the dropping of a node, and the dropping itself.
-ghost use Rattle.std.specs.Prelude.{◌<◌, ◌≡◌, length};
-ghost use Rattle.tables.specs.Net.{entering, node_cell};
-ghost use Rattle.tables.specs.Parts.{claim_no};
+// A node without edges is dropped.
+ghost use Rattle.std.specs.Prelude.{length};
 ghost use Rattle.lists.specs.Parts.{Edges};
-ghost use Rattle.dropping.specs.Dropping.{bare_in, drop_node};
 ghost use Rattle.dropping.specs.Parts.{Renumbers, NodePair, MovesNode, Droppable, Drops};
 
-use index::{EdgeIndex, NodeIndex, Refusal};
-use sound::{Checked, check};
+use index::{EdgeIndex, NodeIndex};
 use tables::Node;
-use tables::parts::{Claim, EDGE_CELLS, INCOMING, NODE_CELLS, OUTGOING, fits, write_node};
-
-// The weight of a node that is gone, and the rows read.
-#[derive(Drop)]
-pub struct Dropped {
-    pub weight: i32,
-    pub rows: u32,
-}
-
-// Whether both lists of node a are empty.
-pub fn is_bare(heads: &[u32], a: NodeIndex) -> bool
-    requires { node_cell a.0 1 < length heads.now }
-    ensures { result ≡ bare_in heads.now a.0 }
-{
-    let cell = NODE_CELLS * a.index();
-    if !EdgeIndex(heads[cell + OUTGOING]).is_end() {
-        return false;
-    }
-    EdgeIndex(heads[cell + INCOMING]).is_end()
-}
-
-// What refuses the dropping of node a: 1, 3, 6, 13. An edge in either list is enough for 13.
-pub fn droppable(
-    weights: &[i32],
-    heads: &[u32],
-    registers: &[u32],
-    links: &[u32],
-    ends: &[u32],
-    n: u32,
-    m: u32,
-    a: NodeIndex,
-) -> Claim
-    ensures { claim_no result ≡ (drop_node (entering weights heads registers links ends n m) a.0).answer.number }
-{
-    if !fits(weights, heads, registers, links, ends, n, m) {
-        return Claim::Refused(Refusal::Tables);
-    }
-    if n <= a.0 {
-        return Claim::Refused(Refusal::NoNode);
-    }
-    let Checked::Accepted(_) = check(weights, heads, registers, links, ends, n, m) else {
-        return Claim::Refused(Refusal::Broken);
-    };
-    if !is_bare(heads, a) {
-        return Claim::Refused(Refusal::NotBare);
-    }
-    Claim::Free
-}
+use tables::parts::{EDGE_CELLS, INCOMING, NODE_CELLS, OUTGOING, write_node};
 
 // The rows from `link` on, in direction k, get node a as their end; each counts one.
 pub fn renumber(links: &[u32], ends: &mut [u32], m: u32, k: usize, link: u32, a: NodeIndex) -> u32
@@ -93,7 +42,7 @@ pub fn move_node(weights: &mut [i32], heads: &mut [u32], a: usize, b: usize)
 }
 
 // The last node takes the place of a, which has no edges: its row moves, and the rows of its lists get the new number.
-pub fn drop(
+pub fn drop_node(
     weights: &mut [i32],
     heads: &mut [u32],
     links: &[u32],
@@ -101,11 +50,10 @@ pub fn drop(
     n: &mut u32,
     m: u32,
     a: NodeIndex,
-) -> Dropped
+) -> u32
     requires { Droppable (length weights.old) (length heads.old) (length links.now) (length ends.old) n.old m a.0 }
     ensures { Drops weights heads links.now ends n m a.0 result }
 {
-    let weight = weights[a.index()];
     let last = *n - 1;
     let cell = NODE_CELLS * (last as usize);
     let outgoing = heads[cell + OUTGOING];
@@ -114,8 +62,5 @@ pub fn drop(
     *n = last;
     let q = renumber(links, ends, m, OUTGOING, outgoing, a);
     let r = renumber(links, ends, m, INCOMING, incoming, a);
-    Dropped {
-        weight,
-        rows: q + r,
-    }
+    q + r
 }

@@ -8,8 +8,6 @@ ghost use Rattle.dirsound.specs.Check.{checked_filed};
 ghost use Rattle.dirrows.specs.Calls.{add_edge_filed, set_edge_weight_filed, clear_edges_filed, clear_filed};
 ghost use Rattle.dirfind.specs.Find.{update_edge_filed};
 ghost use Rattle.dirremoval.specs.Removal.{remove_edge_filed};
-ghost use Rattle.dirstripping.specs.Stripping.{strip_node_filed};
-ghost use Rattle.dirdropping.specs.Dropping.{drop_node_filed};
 ghost use Rattle.dirclosing.specs.Closing.{remove_node_filed};
 ghost use Rattle.dirimage.specs.Calls.{image_write_filed, image_read_filed};
 ghost use Rattle.bynumber.specs.Numbers.{find_number, remove_number};
@@ -17,22 +15,17 @@ ghost use Rattle.cells.specs.Told.{told};
 
 use bynumber::{find_number, remove_number};
 use cells::parts::{
-    tell_change, tell_check, tell_edge, tell_edge_removed, tell_items, tell_node_dropped,
-    tell_node_removed, tell_node_stripped,
+    tell_change, tell_check, tell_edge, tell_edge_removed, tell_items, tell_node_removed,
 };
 use closing::NodeRemoved;
 use dirclosing::remove_node;
-use dirdropping::drop_node;
 use dirfind::update_edge;
 use dirimage::{image_read, image_write};
 use dirremoval::remove_edge;
 use dirrows::{add_edge, clear, clear_edges, set_edge_weight};
 use dirsound::check;
-use dirstripping::strip_node;
-use dropping::NodeDropped;
 use index::{EdgeIndex, NodeIndex};
 use removal::EdgeRemoved;
-use stripping::NodeStripped;
 
 // Accepts exactly the sound networks with a right directory; at 6 the place of the first fault, which for the directory is incoming, n + 1.
 #[unsafe(no_mangle)]
@@ -225,73 +218,6 @@ pub extern "C" fn net_dir_remove_node(
         items,
     );
     tell_node_removed(answer, weight, rows, count)
-}
-
-// Takes out all edges of node a, which stays: the rows read, how many edge weights are in the table.
-#[unsafe(no_mangle)]
-pub extern "C" fn net_dir_strip_node(
-    weights: &[i32],
-    heads: &mut [u32],
-    registers: &mut [u32],
-    links: &mut [u32],
-    ends: &mut [u32],
-    n: u32,
-    m: &mut u32,
-    directory: &mut [u32],
-    a: u32,
-    items: &mut [u32],
-    rows: &mut u64,
-    count: &mut u32,
-) -> u32
-    ensures { out (told result (rows.new, count.new))
-        (filed (leaving weights heads registers links ends n m.new) directory.new, items.new)
-        ≡ strip_node_filed (filed (entering weights heads registers links ends n m.old) directory.old) a items.old }
-{
-    let answer: NodeStripped = strip_node(
-        weights,
-        heads,
-        registers,
-        links,
-        ends,
-        n,
-        m,
-        directory,
-        NodeIndex(a),
-        items,
-    );
-    tell_node_stripped(answer, rows, count)
-}
-
-// Takes out node a, which has no edges: its weight, the rows read. No entry changes.
-#[unsafe(no_mangle)]
-pub extern "C" fn net_dir_drop_node(
-    weights: &mut [i32],
-    heads: &mut [u32],
-    registers: &[u32],
-    links: &[u32],
-    ends: &mut [u32],
-    n: &mut u32,
-    m: u32,
-    directory: &[u32],
-    a: u32,
-    weight: &mut i32,
-    rows: &mut u32,
-) -> u32
-    ensures { out (told result (weight.new, rows.new)) (filed (leaving weights heads registers links ends n.new m) directory.now)
-        ≡ drop_node_filed (filed (entering weights heads registers links ends n.old m) directory.now) a }
-{
-    let answer: NodeDropped = drop_node(
-        weights,
-        heads,
-        registers,
-        links,
-        ends,
-        n,
-        m,
-        directory,
-        NodeIndex(a),
-    );
-    tell_node_dropped(answer, weight, rows)
 }
 
 // Takes out all edges; no number stands in any row.

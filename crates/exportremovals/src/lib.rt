@@ -3,22 +3,15 @@ ghost use Rattle.std.specs.Prelude.{◌≡◌};
 ghost use Rattle.tables.specs.Net.{entering, leaving};
 ghost use Rattle.tables.specs.Answers.{out};
 ghost use Rattle.removal.specs.Removal.{remove_edge};
-ghost use Rattle.stripping.specs.Stripping.{strip_node};
-ghost use Rattle.dropping.specs.Dropping.{drop_node};
 ghost use Rattle.closing.specs.Closing.{remove_node};
 ghost use Rattle.image.specs.Calls.{image_write, image_read};
 ghost use Rattle.cells.specs.Told.{told};
 
-use cells::parts::{
-    tell_change, tell_edge_removed, tell_items, tell_node_dropped, tell_node_removed,
-    tell_node_stripped,
-};
+use cells::parts::{tell_change, tell_edge_removed, tell_items, tell_node_removed};
 use closing::remove_node;
-use dropping::drop_node;
 use image::{image_read, image_write};
 use index::{EdgeIndex, NodeIndex};
 use removal::remove_edge;
-use stripping::strip_node;
 
 // Takes out edge e: its weight, the old number of the row that moved into its place (`END` where none did), the rows read.
 #[unsafe(no_mangle)]
@@ -73,59 +66,6 @@ pub extern "C" fn net_remove_node(
         items,
     );
     tell_node_removed(answer, weight, rows, count)
-}
-
-// Takes out all edges of node a, which stays: the rows read, how many edge weights are in the table.
-#[unsafe(no_mangle)]
-pub extern "C" fn net_strip_node(
-    weights: &[i32],
-    heads: &mut [u32],
-    registers: &mut [u32],
-    links: &mut [u32],
-    ends: &mut [u32],
-    n: u32,
-    m: &mut u32,
-    a: u32,
-    items: &mut [u32],
-    rows: &mut u64,
-    count: &mut u32,
-) -> u32
-    ensures { out (told result (rows.new, count.new)) (leaving weights heads registers links ends n m.new, items.new)
-        ≡ strip_node (entering weights heads registers links ends n m.old) a items.old }
-{
-    let answer = strip_node(
-        weights,
-        heads,
-        registers,
-        links,
-        ends,
-        n,
-        m,
-        NodeIndex(a),
-        items,
-    );
-    tell_node_stripped(answer, rows, count)
-}
-
-// Takes out node a, which has no edges: its weight, the rows read.
-#[unsafe(no_mangle)]
-pub extern "C" fn net_drop_node(
-    weights: &mut [i32],
-    heads: &mut [u32],
-    registers: &[u32],
-    links: &[u32],
-    ends: &mut [u32],
-    n: &mut u32,
-    m: u32,
-    a: u32,
-    weight: &mut i32,
-    rows: &mut u32,
-) -> u32
-    ensures { out (told result (weight.new, rows.new)) (leaving weights heads registers links ends n.new m)
-        ≡ drop_node (entering weights heads registers links ends n.old m) a }
-{
-    let answer = drop_node(weights, heads, registers, links, ends, n, m, NodeIndex(a));
-    tell_node_dropped(answer, weight, rows)
 }
 
 // The image of the network; its length.

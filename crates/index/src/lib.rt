@@ -77,7 +77,7 @@ impl EdgeDirection {
     }
 }
 
-// Why a call changes nothing. `number` has the answer number of each; those from `NoRanking` on no call gives yet.
+// Why a call changes nothing. `number` has the answer number of each; those from `NotBare` on no call gives yet.
 #[derive(Drop)]
 pub enum Refusal {
     Tables,

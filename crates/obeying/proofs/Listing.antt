@@ -96,7 +96,7 @@ step-listed letter o s =
     let t = s.tables.numbers in
     let a = o.a in
     let b = o.b in
-    let around-a : Item → List ℕ = λ item. around g item a in
+    let around_a : Item → List ℕ = λ item. around g item a in
     let between = picks g 0 (To (record { 0 = b })) a ++ picks g 1 (ToNot (record { 0 = b }) (record { 0 = a })) a in
     step_ways Lists o s letter
     (reply_items 78 one_number (add_node g o.w).answer (omega arith))
@@ -105,8 +105,8 @@ step-listed letter o s =
     (reply_items 70 one_number (find_edge g a b) (omega arith))
     (reply_items 88 edge_gone (remove_edge g a).answer (omega arith))
     (reply_items 68 node_gone (remove_node g a t).answer (closed-holds g a t))
-    (reply_items 87 counted (neighbors g a t).answer (walk-holds g a (around-a Far) t))
-    (reply_items 71 counted (edges g a s.tables).answer (walked_so GivenThree g a s.tables (give_three around-a s.tables) (λ x. omega arith) (three_hold around-a s.tables)))
+    (reply_items 87 counted (neighbors g a t).answer (walk-holds g a (around_a Far) t))
+    (reply_items 71 counted (edges g a s.tables).answer (walked_so GivenThree g a s.tables (give_three around_a s.tables) (λ x. omega arith) (three_hold around_a s.tables)))
     (reply_items 77 counted (edges_mut g a t).answer (walk-holds g a (picks g 1 Every a ++ picks g 0 Every a) t))
     (reply_items 66 counted (edges_between g a b t).answer (walk-holds g a between t))
     (reply_items 65 one_value (sum_around g a) (omega arith))

@@ -20,13 +20,13 @@ spelt_high : (f x : ℕ) → 10 ≤ x → spelt (suc f) x ≡ spelt f (x / 10) +
 unfolding spelt
 spelt_high f x h = rw (le-ltb x 10 h, spelt)
 
-spelt_enough : (f g x : ℕ) → x < f → x < g → spelt f x ≡ spelt g x
-spelt_enough zero g x h l = absurd (omega arith)
-spelt_enough (suc f) zero x h l = absurd (omega arith)
-spelt_enough (suc f) (suc g) x h l =
+spelt-enough : (f g x : ℕ) → x < f → x < g → spelt f x ≡ spelt g x
+spelt-enough zero g x h l = absurd (omega arith)
+spelt-enough (suc f) zero x h l = absurd (omega arith)
+spelt-enough (suc f) (suc g) x h l =
     elim (dec_lt x 10) [
       | yes t ↦ rw (spelt_low f x t, spelt_low g x t)
-      | no t ↦ rw (spelt_high f x (omega arith), spelt_high g x (omega arith), spelt_enough f g (x / 10) (omega arith) (omega arith))
+      | no t ↦ rw (spelt_high f x (omega arith), spelt_high g x (omega arith), spelt-enough f g (x / 10) (omega arith) (omega arith))
     ]
 
 pub digits_low : (x : ℕ) → x < 10 → digits x ≡ glyph x ∷ []
@@ -35,7 +35,7 @@ digits_low x h = spelt_low x x h
 
 pub digits_high : (x : ℕ) → 10 ≤ x → digits x ≡ digits (x / 10) ++ (glyph (x % 10) ∷ [])
 unfolding digits
-digits_high x h = spelt_high x x h ∙ ap (λ s. s ++ (glyph (x % 10) ∷ [])) (spelt_enough x (suc (x / 10)) (x / 10) (omega arith) (omega arith))
+digits_high x h = spelt_high x x h ∙ ap (λ s. s ++ (glyph (x % 10) ∷ [])) (spelt-enough x (suc (x / 10)) (x / 10) (omega arith) (omega arith))
 
 pub one_more : (x : ℕ) → 10 ≤ x → length (digits x) ≡ length (digits (x / 10)) + 1
 one_more x h = ap length (digits_high x h) ∙ length-append (digits (x / 10)) (glyph (x % 10) ∷ [])

@@ -9,4 +9,3 @@ pub mod Told
 pub mod Cases
 pub mod Direction
 pub mod Kept
-pub mod Accepted

@@ -5,6 +5,3 @@ pub mod Emptying
 pub mod Stripping
 pub mod Headwise
 pub mod Phases
-pub mod Ways
-pub mod Bared
-pub mod Told

@@ -1,4 +1,3 @@
 pub mod Heads
-pub mod Stripping
 pub mod Lists
 pub mod Parts

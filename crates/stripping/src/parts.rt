@@ -1,51 +1,11 @@
-// What stands against the stripping of a node, and the stripping itself.
-ghost use Rattle.std.specs.Prelude.{◌≡◌, length};
-ghost use Rattle.tables.specs.Net.{entering};
-ghost use Rattle.tables.specs.Parts.{claim_no};
+// A node is stripped of its edges.
+ghost use Rattle.std.specs.Prelude.{length};
 ghost use Rattle.stripping.specs.Parts.{Strippable, Strips};
-ghost use Rattle.stripping.specs.Stripping.{strip_node};
 
-use index::{EdgeDirection, EdgeIndex, NodeIndex, Refusal};
-use legs::parts::{Settled, along, settle};
-use lists::Pick;
+use index::{EdgeDirection, EdgeIndex, NodeIndex};
 use removal::EdgeRemoved;
 use removal::parts::take_out;
-use sound::{Checked, check};
-use tables::parts::{Claim, INCOMING, NODE_CELLS, OUTGOING, fits};
-
-// What refuses the stripping of node a: 1, 3, 6, 7. The edges of its two lists are counted first, so that a refusal changes nothing.
-pub fn strippable(
-    weights: &[i32],
-    heads: &[u32],
-    registers: &[u32],
-    links: &[u32],
-    ends: &[u32],
-    n: u32,
-    m: u32,
-    a: NodeIndex,
-    items: &[u32],
-) -> Claim
-    ensures { claim_no result ≡ (strip_node (entering weights heads registers links ends n m) a.0 items.now).answer.number }
-{
-    if !fits(weights, heads, registers, links, ends, n, m) {
-        return Claim::Refused(Refusal::Tables);
-    }
-    if n <= a.0 {
-        return Claim::Refused(Refusal::NoNode);
-    }
-    let Checked::Accepted(_) = check(weights, heads, registers, links, ends, n, m) else {
-        return Claim::Refused(Refusal::Broken);
-    };
-    let first = along(heads, a, OUTGOING, Pick::Every);
-    let second = along(heads, a, INCOMING, Pick::NotTo(a));
-    let Settled::Rows(_, _, _, count) = settle(links, ends, m, first, second) else {
-        return Claim::Refused(Refusal::Broken); // no list of a sound network is broken
-    };
-    if items.len() < count as usize {
-        return Claim::Refused(Refusal::Short);
-    }
-    Claim::Free
-}
+use tables::parts::NODE_CELLS;
 
 // The rows read, and how many weights stand in the table.
 #[derive(Drop)]

@@ -4,4 +4,3 @@ pub mod Told
 pub mod NetworkA
 pub mod Vacant
 pub mod Guards
-pub mod Claims

@@ -5,9 +5,6 @@ use mathlib.Core.Path.{◌≡◌, refl, sym, ap, ◌∙◌}
 use lib.IntN.{ℤ, pos}
 use Rattle.index.proofs.Laws.{untold, untold_refusal}
 use Rattle.tables.specs.Answers.{Told, told_node, told_edge, told_node_weight, told_edge_weight, told_ends, told_change, told_items}
-use Rattle.tables.specs.Parts.{claim_no}
-use Rattle.tables.specs.declared.parts.Claim.{Claim}
-use Rattle.tables.specs.declared.parts.Claim.TheVariants as Claim·
 use Rattle.tables.specs.declared.answers.NodeAnswer.{NodeAnswer}
 use Rattle.tables.specs.declared.answers.NodeAnswer.TheVariants as NodeAnswer·
 use Rattle.tables.specs.declared.answers.EdgeAnswer.{EdgeAnswer}
@@ -96,10 +93,3 @@ items_is (Items·.Refused why) = untold_refusal (Items·.Count 0) Items·.Refuse
 
 pub items_told_once : (r s : Items) → told_items r ≡ told_items s → r ≡ s
 items_told_once = told-once told_items items_back items_is
-
-claim_is : (r : Claim) → untold Claim·.Free Claim·.Refused (claim_no r) ≡ r
-claim_is Claim·.Free = refl
-claim_is (Claim·.Refused why) = untold_refusal Claim·.Free Claim·.Refused why
-
-pub claim_told_once : (r s : Claim) → claim_no r ≡ claim_no s → r ≡ s
-claim_told_once = told-once claim_no (untold Claim·.Free Claim·.Refused) claim_is

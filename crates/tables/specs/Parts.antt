@@ -1,18 +1,10 @@
 -- What the parts leave in the columns lent to them, and the rows that they ask for.
 use Rattle.std.specs.Prelude.{ℕ, ◌*◌, ◌<◌, ◌≤◌, ◌≡◌, ℤ, pos, set}
 use Rattle.index.specs.Index.{END}
-use Rattle.index.specs.Refusals.{refusal_no}
 use Rattle.tables.specs.declared.row.Node.{Node}
 use Rattle.tables.specs.declared.row.Edge.{Edge}
-use Rattle.tables.specs.declared.parts.Claim.{Claim}
-use Rattle.tables.specs.declared.parts.Claim.TheVariants as Claim·
 use Rattle.tables.specs.Net.{Lent, node_cells, edge_cells, node_cell, edge_cell}
 use Rattle.tables.specs.Rows.{heads_with, links_with, ends_with, new_edge, headed, filled}
-
--- the number of a claim: 0 where nothing stands against it
-abbrev pub claim_no : Claim → ℕ
-claim_no Claim·.Free = 0
-claim_no (Claim·.Refused why) = refusal_no why
 
 -- what a part that writes one row leaves in the columns lent to it
 pub record WritesNode (weights : Lent ℤ) (heads : Lent ℕ) (a : ℕ) (row : Node) : Type 0 where

@@ -4,14 +4,7 @@ ghost use Rattle.tables.specs.Net.{fits, entering};
 ghost use Rattle.tables.specs.Parts.{NodeRow, EdgeRow, WritesNode, WritesEdge, NodeSpan, EdgeSpan, VacatesNodes, VacatesEdges, Linkable, LinksEdge};
 
 use crate::row::{Edge, Node};
-use index::{EdgeIndex, NodeIndex, Refusal};
-
-// What stands against a request: nothing, or the refusal that it gets.
-#[derive(Drop)]
-pub enum Claim {
-    Free,
-    Refused(Refusal),
-}
+use index::{EdgeIndex, NodeIndex};
 
 // The most rows of each kind.
 pub const NODE_ROWS: usize = 16384;

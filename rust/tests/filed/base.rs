@@ -1,12 +1,17 @@
-//! The order's rules for the calls that rules/ leaves out: clears and images.
+//! The order's rules for the calls that rules/ leaves out: a weight set, clears, a node taken out, images.
 
-use crate::rules::{self, nodes::vacate};
+use crate::rules;
 use waterways::{END, Refusal, Tables};
 
 fn vacate_edge(t: &mut Tables, e: usize) {
     t.registers[e] = 0;
     t.links[2 * e..][..2].fill(END);
     t.ends[2 * e..][..2].fill(END);
+}
+
+fn vacate_node(t: &mut Tables, a: usize) {
+    t.weights[a] = 0;
+    t.heads[2 * a..][..2].fill(END);
 }
 
 /// Rows below m become vacant, and the heads of nodes below n `END`.
@@ -23,7 +28,7 @@ pub fn clear_edges(t: &mut Tables) -> Result<(), Refusal> {
 /// The same with the rows below n.
 pub fn clear(t: &mut Tables) -> Result<(), Refusal> {
     clear_edges(t)?;
-    (0..t.n as usize).for_each(|a| vacate(t, a));
+    (0..t.n as usize).for_each(|a| vacate_node(t, a));
     t.n = 0;
     Ok(())
 }
@@ -31,8 +36,44 @@ pub fn clear(t: &mut Tables) -> Result<(), Refusal> {
 /// All rows lent become vacant.
 pub fn empty(t: &mut Tables) {
     (0..t.registers.len()).for_each(|e| vacate_edge(t, e));
-    (0..t.weights.len()).for_each(|a| vacate(t, a));
+    (0..t.weights.len()).for_each(|a| vacate_node(t, a));
     (t.n, t.m) = (0, 0);
+}
+
+/// The edges of a node, a self-loop once.
+pub fn degree(t: &Tables, a: u32) -> usize {
+    let ends = t.ends[..2 * t.m as usize].chunks(2);
+    ends.filter(|ends| ends.contains(&a)).count()
+}
+
+/// Takes a node out of a sound network: its weight, the rows read, and the weights of its edges. The head goes
+/// till both lists are empty; then the last node moves in.
+pub fn remove_node(t: &mut Tables, a: u32) -> (i32, u64, Vec<u32>) {
+    let (at, mut rows, mut weights) = (a as usize, 0, Vec::new());
+    let weight = t.weights[at];
+    for k in [0, 1] {
+        while t.heads[2 * at + k] != END {
+            let head = t.heads[2 * at + k];
+            let (weight, _, read) = rules::remove_edge(t, head).expect("the network is sound");
+            weights.push(weight);
+            rows += u64::from(read);
+        }
+    }
+    let last = t.n as usize - 1;
+    if at != last {
+        // Every end that names the last node, once in each list that it stands in.
+        for end in &mut t.ends[..2 * t.m as usize] {
+            if *end == last as u32 {
+                *end = a;
+                rows += 1;
+            }
+        }
+        t.weights[at] = t.weights[last];
+        t.heads.copy_within(2 * last..2 * last + 2, 2 * at);
+    }
+    vacate_node(t, last);
+    t.n -= 1;
+    (weight, rows, weights)
 }
 
 /// Mark, version, counts; then weight and links of each node, weight, links and ends of each edge.

@@ -3,7 +3,7 @@
 
 pub mod base;
 
-use crate::rules::{self, nodes};
+use crate::rules;
 use waterways::{END, Refusal, Tables};
 
 /// A network and its directory: for each register number the row that it stands in, or `END`, none.
@@ -12,8 +12,6 @@ pub struct Filed {
     pub tables: Tables,
     pub directory: Vec<u32>,
 }
-
-const BORNE_ONCE: &str = "each number was below the length, and borne once";
 
 /// The directory of rows with these numbers, in so many cells: 12 where a number has no cell, then 11 where two
 /// rows have one number.
@@ -131,32 +129,23 @@ impl Filed {
         self.remove_edge(self.find_number(r)?)
     }
 
-    /// 1, 3, and 6 also where the directory is not right.
-    fn asked(&self, a: u32) -> Result<(), Refusal> {
-        nodes::asked(&self.tables, a)?;
-        self.right().then_some(()).ok_or(Refusal::Broken)
-    }
-
     /// Weight, rows read and how many edge weights stand in the table.
     pub fn remove_node(&mut self, a: u32, items: &mut [u32]) -> Result<(i32, u64, usize), Refusal> {
-        self.asked(a)?;
-        let removed = nodes::remove_node(&mut self.tables, a, items)?;
-        self.file().expect(BORNE_ONCE);
-        Ok(removed)
-    }
-
-    /// Rows read and how many edge weights stand in the table.
-    pub fn strip_node(&mut self, a: u32, items: &mut [u32]) -> Result<(u64, usize), Refusal> {
-        self.asked(a)?;
-        let stripped = nodes::strip_node(&mut self.tables, a, items)?;
-        self.file().expect(BORNE_ONCE);
-        Ok(stripped)
-    }
-
-    /// Weight and rows read. No entry changes.
-    pub fn drop_node(&mut self, a: u32) -> Result<(i32, u32), Refusal> {
-        self.asked(a)?;
-        nodes::drop_node(&mut self.tables, a)
+        self.fit()?;
+        if self.tables.n <= a {
+            return Err(Refusal::NoNode);
+        }
+        if self.fault().is_some() {
+            return Err(Refusal::Broken);
+        }
+        if items.len() < base::degree(&self.tables, a) {
+            return Err(Refusal::Short);
+        }
+        let (weight, rows, weights) = base::remove_node(&mut self.tables, a);
+        items[..weights.len()].copy_from_slice(&weights);
+        self.file()
+            .expect("a number was below the length, and borne once");
+        Ok((weight, rows, weights.len()))
     }
 
     /// The directory becomes that of the rows.

@@ -1,8 +1,6 @@
 //! The order's rules for tables that may be broken, written down a second time: by lists and searches
 //! over plain vectors, with no part of the library.
 
-pub mod nodes;
-
 use waterways::{END, Refusal, Tables};
 
 /// Where a link stands.

@@ -1,22 +1,9 @@
--- `remove_node` meets its contract: refused by what `strippable` told; where nothing stands against it, the two parts leave what the definition says.
-use Prim.Native.Nat.{◌+◌, ◌<◌}
-use mathlib.Core.Path.{◌≡◌, refl, ◌∙◌}
-use native.Mathlib.Omega.{arith}
+-- `remove_node` meets its contract: refused by what `removable` told; where nothing stands against it, the part leaves what the definition says.
+use mathlib.Core.Path.{refl}
 use borrow.Author.Rules.{rules}
-use lib.ListN.{length}
-use mir.Facts.{to_z-of_z}
-use mir.Syntax.{w32}
 use Rattle.tables.specs.Net.{net}
-use Rattle.tables.proofs.Claims.{refused_so, granted}
-use Rattle.stripping.specs.Heads.{stripped}
-use Rattle.stripping.proofs.Ways.{fit_of_lem, strippable_so}
-use Rattle.closing.specs.Closing.{closed}
-use Rattle.closing.proofs.Closes.{node-taken}
 use Rattle.directory.specs.Directory.{Filed, filed}
-use Rattle.dirstripping.specs.Stripping.{refiled}
-use Rattle.dirstripping.proofs.Ways.{ReadyFiled, refiled_so}
-use Rattle.dirclosing.specs.Closing.{remove_node_filed}
-use Rattle.dirclosing.proofs.Ways.{remove_ends_filed, same_number_filed}
+use Rattle.dirclosing.proofs.Ways.{refused_so, ready_so, taken_so}
 use Rattle.dirclosing.proofs.remove_node.Statement.{statement}
 use Rattle.dirclosing.proofs.remove_node.Tie as tie
 
@@ -27,84 +14,32 @@ lent s =
     (net s.args.weights.now s.args.heads.now s.args.registers.now s.args.links.now s.args.ends.now s.args.n.now s.args.m.now)
     s.args.directory.now
 
-abbrev begin : tie.After-strippable → tie.Start
+abbrev begin : tie.After-removable → tie.Start
 begin c = search
 
 returns : tie.Need-returns
 returns c =
-    let d : tie.After-strippable = search in
+    let d : tie.After-removable = search in
     let s = begin d in
-    let told = d.strippable.ensures ∙ same_number_filed (lent s) s.args.a.0 s.args.items.now in
-    refused_so (remove_ends_filed (lent s) s.args.a.0 s.args.items.now) d.strippable.result told refl _ c.before.why.given.1
+    refused_so (lent s) s.args.a.0 s.args.items.now d.removable.result d.removable.ensures _ c.before.why.given.1
 
--- nothing stands against it
-abbrev asking : tie.After-enum-told → tie.After-strippable
-asking c = search
-
-ready : (c : tie.After-enum-told) → let s = begin (asking c) in let f = lent s in let a = s.args.a.0 in let I = s.args.items.now in
-    ReadyFiled f a (length I) × (refiled (length f.directory) (closed f.net a I (stripped f.net a)) ≡ remove_node_filed f a I)
-ready c =
-    let d = asking c in
-    let s = begin d in
-    let told = d.strippable.ensures ∙ same_number_filed (lent s) s.args.a.0 s.args.items.now in
-    granted (remove_ends_filed (lent s) s.args.a.0 s.args.items.now) d.strippable.result told c.enum_told.given.1
-
-strip-requires : tie.Need-strip-requires
-strip-requires c κs =
+take-node-requires : tie.Need-take-node-requires
+take-node-requires c κs =
     let e : tie.After-enum-told = search in
-    let r = (ready e).0 in
-    record { strippable = strippable_so (lent (begin (asking e))).net _ r.0.at _ r.0.room; right = r.1 }
-
--- the way back from the two parts
-abbrev granting : tie.After-strip → tie.After-enum-told
-granting c = search
-
-abbrev stripping : tie.After-drop → tie.After-strip
-stripping c = search
-
-drop-requires : tie.Need-drop-requires
-drop-requires c κs =
-    let t : tie.After-strip = search in
-    let at = (ready (granting t)).0.0.at in
-    let f = fit_of_lem at in
-    let k = t.strip.kept in
-    let less = t.strip.ensures.strips.fewer in
-    record {
-      weights_hold = f.n_within;
-      heads_hold = omega (arith, k.0, f.heads_agree, f.n_within);
-      links_hold = omega (arith, k.1.1.0, f.links_agree, f.m_within, less);
-      ends_hold = omega (arith, k.1.1.1.0, f.ends_agree, f.m_within, less);
-      edges_most = omega (arith, f.edges_most, f.m_within, less);
-      nodes_most = omega (arith, f.nodes_most, f.n_within);
-      node = at.node;
-    }
-
--- few rows are read
-few : (c : tie.After-drop) → (stripping c).strip.result.rows + c.drop.result.rows < 18446744073709551616
-few c =
-    let t = stripping c in
-    let f = fit_of_lem (ready (granting t)).0.0.at in
-    let s = t.strip.ensures.strips in
-    omega (arith, s.few, s.fewer, c.drop.ensures.few, f.edges_most, f.m_within)
+    let d : tie.After-removable = search in
+    let s = begin d in
+    ready_so (lent s) s.args.a.0 s.args.items.now d.removable.result d.removable.ensures e.enum_told.given.1
 
 returns-2 : tie.Need-returns-2
 returns-2 c =
-    let o : tie.After-drop = search in
-    let t = stripping o in
-    let e = granting t in
-    let s = begin (asking e) in
-    let f = lent s in
-    let p = t.strip.ensures.strips in
-    let q = o.drop.ensures in
-    let d : tie.After-struct-told = search in
-    let weight = to_z-of_z {w = w32} {z = o.drop.result.weight} (record { sfits = d.struct_told.given.0.1 }) ∙ q.weight_is in
-    refiled_so (length f.directory) _ _ _ _ _
-    (node-taken f.net _ _ _ _ _ _ _ p.given _ _ _ _ _ _ _ _ _ (p.rest s.args.weights.now) p.count_is p.items_are weight
-    q.moved.weights_are q.moved.heads_are q.ends_are q.nodes q.rows_are)
-    t.strip.ensures.directory_is
-    ∙ (ready e).1
+    let t : tie.After-take-node = search in
+    let e : tie.After-enum-told = search in
+    let d : tie.After-removable = search in
+    let s = begin d in
+    taken_so (lent s) s.args.a.0 s.args.items.now d.removable.result d.removable.ensures e.enum_told.given.1 t.take-node.result _ _ _
+    t.take-node.ensures
 
--- the columns' lengths are named where the two parts kept them: to search for all seven takes most of a gigabyte
+-- the columns' lengths are named where the part kept them: to search for all seven takes most of a gigabyte
 pub remove-node-spec : {M : Type 1} → statement M
 remove-node-spec =
     tie.close
@@ -112,10 +47,7 @@ remove-node-spec =
     (λ c κs. search rules)
     (λ c. search rules)
     (λ c. search rules)
-    strip-requires
-    drop-requires
-    (λ c. search rules)
-    (λ c. let o : tie.After-drop = search in record { fits = omega (arith, few o) })
+    take-node-requires
     (λ c. refl)
     (λ c. refl)
     (λ c. refl)
@@ -124,11 +56,11 @@ remove-node-spec =
     (λ c. refl)
     (λ c. refl)
     returns
-    (λ c. let o : tie.After-drop = search in o.drop.kept.0)
-    (λ c. let o : tie.After-drop = search in o.drop.kept.1.0 ∙ (stripping o).strip.kept.0)
-    (λ c. let t : tie.After-strip = search in t.strip.kept.1.0)
-    (λ c. let t : tie.After-strip = search in t.strip.kept.1.1.0)
-    (λ c. let o : tie.After-drop = search in o.drop.kept.1.1.1.0 ∙ (stripping o).strip.kept.1.1.1.0)
-    (λ c. let t : tie.After-strip = search in t.strip.kept.1.1.1.1.1.1.0)
-    (λ c. let t : tie.After-strip = search in t.strip.kept.1.1.1.1.1.1.1.1.0)
+    (λ c. let t : tie.After-take-node = search in t.take-node.kept.0)
+    (λ c. let t : tie.After-take-node = search in t.take-node.kept.1.0)
+    (λ c. let t : tie.After-take-node = search in t.take-node.kept.1.1.0)
+    (λ c. let t : tie.After-take-node = search in t.take-node.kept.1.1.1.0)
+    (λ c. let t : tie.After-take-node = search in t.take-node.kept.1.1.1.1.0)
+    (λ c. let t : tie.After-take-node = search in t.take-node.kept.1.1.1.1.1.1.1.0)
+    (λ c. let t : tie.After-take-node = search in t.take-node.kept.1.1.1.1.1.1.1.1.1.0)
     returns-2)

@@ -7,7 +7,7 @@ use borrow.Author.Rules.{rules}
 use lib.ListN.{length}
 use Rattle.directory.specs.Directory.{register_in, every, directory_of}
 use Rattle.directory.proofs.Every.{every-none}
-use Rattle.tables.specs.Parts.{claim_no}
+use Rattle.dirrows.specs.Parts.{claim_no}
 use Rattle.dirimage.specs.Loading.{has_cell, is_first, filing}
 use Rattle.dirimage.proofs.Turns.{none-entered, turn_entered, turn_below, turn_apart, no_cell, not_apart, all_apart, all_entered}
 use Rattle.dirimage.proofs.parts.enter_rows.Statement.{statement}
