@@ -120,7 +120,7 @@ def turn_rt(text, names, lib):
             continue
         pieces = re.split(r'("(?:\\.|[^"\\])*")', line)
         for i in range(0, len(pieces), 2):
-            pieces[i] = re.sub(r"[^\W\d][\w']*", lambda m: names.get(m.group(0), m.group(0)) if CAMEL.search(m.group(0)) else m.group(0), pieces[i])
+            pieces[i] = re.sub(r"[^\W\d][\w']*", lambda m: turn_word(m.group(0), names, lib) if CAMEL.search(m.group(0)) else m.group(0), pieces[i])
         out.append("".join(pieces))
     return "\n".join(out)
 

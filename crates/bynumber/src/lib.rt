@@ -1,4 +1,6 @@
 // Edges looked up and taken out by their register numbers.
+#![tactic(auto)]
+
 ghost use Rattle.std.specs.Prelude.{◌≡◌};
 ghost use Rattle.tables.specs.Net.{entering, leaving};
 ghost use Rattle.tables.specs.Answers.{out, told_edge};
@@ -24,7 +26,7 @@ pub fn find_number(
     directory: &[u32],
     r: u32,
 ) -> EdgeAnswer
-    ensures { toldEdge result ≡ find_number (filed (entering weights heads registers links ends n m) directory.now) r }
+    ensures { told_edge result ≡ find_number (filed (entering weights.now heads.now registers.now links.now ends.now n m) directory.now) r }
 {
     if !fits(weights, heads, registers, links, ends, n, m) {
         return EdgeAnswer::Refused(Refusal::Tables);
@@ -54,8 +56,8 @@ pub fn remove_number(
     directory: &mut [u32],
     r: u32,
 ) -> EdgeRemoved
-    ensures { out (told_edge_removed result) (filed (leaving weights heads registers links ends n m.new) directory.new)
-        ≡ remove_number (filed (entering weights heads registers links ends n m.old) directory.old) r }
+    ensures { out (told_edge_removed result) (filed (leaving weights.now heads.new registers.new links.new ends.new n m.new) directory.new)
+        ≡ remove_number (filed (entering weights.now heads.old registers.old links.old ends.old n m.old) directory.old) r }
 {
     match find_number(weights, heads, registers, links, ends, n, *m, directory, r) {
         EdgeAnswer::Refused(why) => EdgeRemoved::Refused(why),

@@ -2,6 +2,8 @@
 // network A, built anew (Z) where a case has changed it. Behind a D, the sums tell which node moved. The script is obeyed in tables of three node
 // rows and five edge rows, so that the last edge row is soon taken. Its answers are printed, then the edge rows that its last line, X 0 on A,
 // has left; then the image of one node.
+#![tactic(auto)]
+
 ghost use Rattle.std.specs.Prelude.{◌≤◌, ◌≡◌, length, take};
 
 use image::{image_read, image_write};

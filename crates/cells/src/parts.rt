@@ -18,7 +18,7 @@ use tables::{Changed, EdgeAnswer, EdgeWeight, Endpoints, Items, NodeAnswer, Node
 use walker::{Begun, Step, Summed, Walker};
 
 pub fn tell_node(answer: NodeAnswer, node: &mut u32) -> u32
-    ensures { told result node.new ≡ toldNode answer }
+    ensures { told result node.new ≡ told_node answer }
 {
     match answer {
         NodeAnswer::Node(a) => {
@@ -33,7 +33,7 @@ pub fn tell_node(answer: NodeAnswer, node: &mut u32) -> u32
 }
 
 pub fn tell_edge(answer: EdgeAnswer, edge: &mut u32) -> u32
-    ensures { told result edge.new ≡ toldEdge answer }
+    ensures { told result edge.new ≡ told_edge answer }
 {
     match answer {
         EdgeAnswer::Edge(e) => {
@@ -48,7 +48,7 @@ pub fn tell_edge(answer: EdgeAnswer, edge: &mut u32) -> u32
 }
 
 pub fn tell_node_weight(answer: NodeWeight, weight: &mut i32) -> u32
-    ensures { told result weight.new ≡ toldNodeWeight answer }
+    ensures { told result weight.new ≡ told_node_weight answer }
 {
     match answer {
         NodeWeight::Weight(w) => {
@@ -63,7 +63,7 @@ pub fn tell_node_weight(answer: NodeWeight, weight: &mut i32) -> u32
 }
 
 pub fn tell_edge_weight(answer: EdgeWeight, weight: &mut u32) -> u32
-    ensures { told result weight.new ≡ toldEdgeWeight answer }
+    ensures { told result weight.new ≡ told_edge_weight answer }
 {
     match answer {
         EdgeWeight::Weight(w) => {
@@ -78,7 +78,7 @@ pub fn tell_edge_weight(answer: EdgeWeight, weight: &mut u32) -> u32
 }
 
 pub fn tell_ends(answer: Endpoints, source: &mut u32, target: &mut u32) -> u32
-    ensures { told result (source.new, target.new) ≡ toldEnds answer }
+    ensures { told result (source.new, target.new) ≡ told_ends answer }
 {
     match answer {
         Endpoints::Ends(a, b) => {
@@ -95,7 +95,7 @@ pub fn tell_ends(answer: Endpoints, source: &mut u32, target: &mut u32) -> u32
 }
 
 pub fn tell_change(answer: Changed) -> u32
-    ensures { told result tt ≡ toldChange answer }
+    ensures { told result tt ≡ told_change answer }
 {
     match answer {
         Changed::Done => 0,
@@ -104,7 +104,7 @@ pub fn tell_change(answer: Changed) -> u32
 }
 
 pub fn tell_items(answer: Items, count: &mut u32) -> u32
-    ensures { told result count.new ≡ toldItems answer }
+    ensures { told result count.new ≡ told_items answer }
 {
     match answer {
         Items::Count(c) => {

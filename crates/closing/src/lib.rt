@@ -1,4 +1,6 @@
 // Taking a node out of a network.
+#![tactic(auto)]
+
 ghost use Rattle.std.specs.Prelude.{◌≡◌};
 ghost use Rattle.tables.specs.Net.{entering, leaving};
 ghost use Rattle.tables.specs.Answers.{out};
@@ -12,7 +14,7 @@ use tables::parts::fits;
 pub mod parts;
 
 // The node's weight, the rows read, and how many edges went with it: their weights stand in the table lent for them.
-#[derive(Drop)]
+#[derive(Clone, Copy)]
 pub enum NodeRemoved {
     Node(i32, u64, u32),
     Refused(Refusal),
@@ -30,7 +32,7 @@ pub fn remove_node(
     a: NodeIndex,
     items: &mut [u32],
 ) -> NodeRemoved
-    ensures { out (told_node_removed result) (leaving weights heads registers links ends n.new m.new, items.new) ≡ remove_node (entering weights heads registers links ends n.old m.old) a.0 items.old }
+    ensures { out (told_node_removed result) (leaving weights.new heads.new registers.new links.new ends.new n.new m.new, items.new) ≡ remove_node (entering weights.old heads.old registers.old links.old ends.old n.old m.old) a.0 items.old }
 {
     let nodes = *n;
     let edges = *m;

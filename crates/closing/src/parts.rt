@@ -27,9 +27,9 @@ pub fn take_node(
     items: &mut [u32],
 ) -> NodeRemoved
     requires { Ready (net weights.old heads.old registers.old links.old ends.old n.old m.old) a.0 (length items.old) }
-    ensures { out (told_node_removed result) (leaving weights heads registers links ends n.new m.new, items.new)
-        ≡ closed (entering weights heads registers links ends n.old m.old) a.0 items.old
-        (stripped (entering weights heads registers links ends n.old m.old) a.0) }
+    ensures { out (told_node_removed result) (leaving weights.new heads.new registers.new links.new ends.new n.new m.new, items.new)
+        ≡ closed (entering weights.old heads.old registers.old links.old ends.old n.old m.old) a.0 items.old
+        (stripped (entering weights.old heads.old registers.old links.old ends.old n.old m.old) a.0) }
 {
     let weight = weights[a.index()];
     let nodes = *n;
@@ -52,8 +52,8 @@ pub fn close(
     items: &mut [u32],
 ) -> NodeRemoved
     requires { Closable (net weights.old heads.old registers.old links.old ends.old n.old m.old) a.0 }
-    ensures { out (told_node_removed result) (leaving weights heads registers links ends n.new m.new, items.new)
-        ≡ closed_if_room (entering weights heads registers links ends n.old m.old) a.0 items.old }
+    ensures { out (told_node_removed result) (leaving weights.new heads.new registers.new links.new ends.new n.new m.new, items.new)
+        ≡ closed_if_room (entering weights.old heads.old registers.old links.old ends.old n.old m.old) a.0 items.old }
 {
     let edges = *m;
     let first = along(heads, a, OUTGOING, Pick::Every);

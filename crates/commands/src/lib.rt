@@ -1,4 +1,6 @@
 // The commands of a script: each makes one call of the library, and replies what it answers.
+#![tactic(auto)]
+
 ghost use Rattle.std.specs.Prelude.{◌≡◌};
 ghost use Rattle.tables.specs.Net.{entering, leaving};
 ghost use Rattle.legs.specs.Legs.{tables3};
@@ -31,8 +33,8 @@ pub fn add_node_line(
     m: u32,
     w: i32,
 ) -> Reply
-    ensures { replied result (leaving weights heads registers links ends n.new m)
-        ≡ add_node_line (entering weights heads registers links ends n.old m) w }
+    ensures { replied result (leaving weights.new heads.new registers.now links.now ends.now n.new m)
+        ≡ add_node_line (entering weights.old heads.old registers.now links.now ends.now n.old m) w }
 {
     let answer = add_node(weights, heads, registers, links, ends, n, m, w);
     node_reply(b'N', answer)
@@ -51,8 +53,8 @@ pub fn add_edge_line(
     b: u32,
     w: u32,
 ) -> Reply
-    ensures { replied result (leaving weights heads registers links ends n m.new)
-        ≡ add_edge_line (entering weights heads registers links ends n m.old) a b w }
+    ensures { replied result (leaving weights.now heads.new registers.new links.new ends.new n m.new)
+        ≡ add_edge_line (entering weights.now heads.old registers.old links.old ends.old n m.old) a b w }
 {
     let answer = add_edge(
         weights,
@@ -82,8 +84,8 @@ pub fn update_edge_line(
     b: u32,
     w: u32,
 ) -> Reply
-    ensures { replied result (leaving weights heads registers links ends n m.new)
-        ≡ update_edge_line (entering weights heads registers links ends n m.old) a b w }
+    ensures { replied result (leaving weights.now heads.new registers.new links.new ends.new n m.new)
+        ≡ update_edge_line (entering weights.now heads.old registers.old links.old ends.old n m.old) a b w }
 {
     let answer = update_edge(
         weights,
@@ -112,7 +114,7 @@ pub fn find_edge_line(
     a: u32,
     b: u32,
 ) -> Reply
-    ensures { result ≡ find_edge_line (entering weights heads registers links ends n m) a b }
+    ensures { result ≡ find_edge_line (entering weights.now heads.now registers.now links.now ends.now n m) a b }
 {
     let answer = find_edge(
         weights,
@@ -139,8 +141,8 @@ pub fn remove_edge_line(
     m: &mut u32,
     e: u32,
 ) -> Reply
-    ensures { replied result (leaving weights heads registers links ends n m.new)
-        ≡ remove_edge_line (entering weights heads registers links ends n m.old) e }
+    ensures { replied result (leaving weights.now heads.new registers.new links.new ends.new n m.new)
+        ≡ remove_edge_line (entering weights.now heads.old registers.old links.old ends.old n m.old) e }
 {
     let answer = remove_edge(weights, heads, registers, links, ends, n, m, EdgeIndex(e));
     edge_removed_reply(b'X', answer)
@@ -158,8 +160,8 @@ pub fn remove_node_line(
     a: u32,
     items: &mut [u32],
 ) -> Reply
-    ensures { replied result (leaving weights heads registers links ends n.new m.new, items.new)
-        ≡ remove_node_line (entering weights heads registers links ends n.old m.old) a items.old }
+    ensures { replied result (leaving weights.new heads.new registers.new links.new ends.new n.new m.new, items.new)
+        ≡ remove_node_line (entering weights.old heads.old registers.old links.old ends.old n.old m.old) a items.old }
 {
     let answer = remove_node(
         weights,
@@ -187,7 +189,7 @@ pub fn neighbors_line(
     a: u32,
     items: &mut [u32],
 ) -> Reply
-    ensures { replied result items.new ≡ neighbors_line (entering weights heads registers links ends n m) a items.old }
+    ensures { replied result items.new ≡ neighbors_line (entering weights.now heads.now registers.now links.now ends.now n m) a items.old }
 {
     let answer = neighbors(
         weights,
@@ -218,7 +220,7 @@ pub fn edges_line(
     targets: &mut [u32],
 ) -> Reply
     ensures { replied result (tables3 items.new sources.new targets.new)
-        ≡ edges_line (entering weights heads registers links ends n m) a (tables3 items.old sources.old targets.old) }
+        ≡ edges_line (entering weights.now heads.now registers.now links.now ends.now n m) a (tables3 items.old sources.old targets.old) }
 {
     let answer = edges(
         weights,
@@ -248,7 +250,7 @@ pub fn edges_mut_line(
     a: u32,
     items: &mut [u32],
 ) -> Reply
-    ensures { replied result items.new ≡ edges_mut_line (entering weights heads registers links ends n m) a items.old }
+    ensures { replied result items.new ≡ edges_mut_line (entering weights.now heads.now registers.now links.now ends.now n m) a items.old }
 {
     let answer = edges_mut(
         weights,
@@ -277,7 +279,7 @@ pub fn edges_between_line(
     b: u32,
     items: &mut [u32],
 ) -> Reply
-    ensures { replied result items.new ≡ edges_between_line (entering weights heads registers links ends n m) a b items.old }
+    ensures { replied result items.new ≡ edges_between_line (entering weights.now heads.now registers.now links.now ends.now n m) a b items.old }
 {
     let answer = edges_between(
         weights,
@@ -305,7 +307,7 @@ pub fn sum_around_line(
     m: u32,
     a: u32,
 ) -> Reply
-    ensures { result ≡ sum_around_line (entering weights heads registers links ends n m) a }
+    ensures { result ≡ sum_around_line (entering weights.now heads.now registers.now links.now ends.now n m) a }
 {
     let answer = sum_around(weights, heads, registers, links, ends, n, m, NodeIndex(a));
     sum_reply(b'A', answer)
@@ -321,7 +323,7 @@ pub fn check_line(
     n: u32,
     m: u32,
 ) -> Reply
-    ensures { result ≡ check_line (entering weights heads registers links ends n m) }
+    ensures { result ≡ check_line (entering weights.now heads.now registers.now links.now ends.now n m) }
 {
     let answer = check(weights, heads, registers, links, ends, n, m);
     check_reply(b'S', answer)
@@ -337,8 +339,8 @@ pub fn clear_edges_line(
     n: u32,
     m: &mut u32,
 ) -> Reply
-    ensures { replied result (leaving weights heads registers links ends n m.new)
-        ≡ clear_edges_line (entering weights heads registers links ends n m.old) }
+    ensures { replied result (leaving weights.now heads.new registers.new links.new ends.new n m.new)
+        ≡ clear_edges_line (entering weights.now heads.old registers.old links.old ends.old n m.old) }
 {
     let answer = clear_edges(weights, heads, registers, links, ends, n, m);
     changed_reply(b'C', answer)
@@ -354,8 +356,8 @@ pub fn clear_line(
     n: &mut u32,
     m: &mut u32,
 ) -> Reply
-    ensures { replied result (leaving weights heads registers links ends n.new m.new)
-        ≡ clear_line (entering weights heads registers links ends n.old m.old) }
+    ensures { replied result (leaving weights.new heads.new registers.new links.new ends.new n.new m.new)
+        ≡ clear_line (entering weights.old heads.old registers.old links.old ends.old n.old m.old) }
 {
     let answer = clear(weights, heads, registers, links, ends, n, m);
     changed_reply(b'Z', answer)

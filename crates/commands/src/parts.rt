@@ -42,7 +42,7 @@ pub fn value(letter: u8, z: i64) -> Reply
 }
 
 pub fn node_reply(letter: u8, answer: NodeAnswer) -> Reply
-    ensures { result ≡ reply_to letter one_number (toldNode answer) }
+    ensures { result ≡ reply_to letter one_number (told_node answer) }
 {
     match answer {
         NodeAnswer::Node(a) => value(letter, a.0 as i64),
@@ -51,7 +51,7 @@ pub fn node_reply(letter: u8, answer: NodeAnswer) -> Reply
 }
 
 pub fn edge_reply(letter: u8, answer: EdgeAnswer) -> Reply
-    ensures { result ≡ reply_to letter one_number (toldEdge answer) }
+    ensures { result ≡ reply_to letter one_number (told_edge answer) }
 {
     match answer {
         EdgeAnswer::Edge(e) => value(letter, e.0 as i64),
@@ -60,7 +60,7 @@ pub fn edge_reply(letter: u8, answer: EdgeAnswer) -> Reply
 }
 
 pub fn changed_reply(letter: u8, answer: Changed) -> Reply
-    ensures { result ≡ reply_to letter nothing (toldChange answer) }
+    ensures { result ≡ reply_to letter nothing (told_change answer) }
 {
     match answer {
         Changed::Done => Reply::bare(letter, 0),
@@ -70,7 +70,7 @@ pub fn changed_reply(letter: u8, answer: Changed) -> Reply
 
 // The count, and as many items.
 pub fn items_reply(letter: u8, answer: Items) -> Reply
-    ensures { result ≡ reply_to letter counted (toldItems answer) }
+    ensures { result ≡ reply_to letter counted (told_items answer) }
 {
     match answer {
         Items::Count(count) => Reply {

@@ -1,1 +1,2 @@
 // What the contracts settle: statements and their proofs. There is nothing to run.
+#![tactic(auto)]

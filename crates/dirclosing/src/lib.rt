@@ -1,4 +1,6 @@
 // Taking a node out of a network with a directory.
+#![tactic(auto)]
+
 ghost use Rattle.std.specs.Prelude.{◌≡◌};
 ghost use Rattle.tables.specs.Net.{entering, leaving};
 ghost use Rattle.tables.specs.Answers.{out};
@@ -26,8 +28,8 @@ pub fn remove_node(
     a: NodeIndex,
     items: &mut [u32],
 ) -> NodeRemoved
-    ensures { out (told_node_removed result) (filed (leaving weights heads registers links ends n.new m.new) directory.new, items.new)
-        ≡ remove_node_filed (filed (entering weights heads registers links ends n.old m.old) directory.old) a.0 items.old }
+    ensures { out (told_node_removed result) (filed (leaving weights.new heads.new registers.new links.new ends.new n.new m.new) directory.new, items.new)
+        ≡ remove_node_filed (filed (entering weights.old heads.old registers.old links.old ends.old n.old m.old) directory.old) a.0 items.old }
 {
     match removable(
         weights, heads, registers, links, ends, *n, *m, directory, a, items,

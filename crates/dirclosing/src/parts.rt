@@ -33,7 +33,7 @@ pub fn removable(
     a: NodeIndex,
     items: &[u32],
 ) -> Claim
-    ensures { claim_no result ≡ (remove_node_filed (filed (entering weights heads registers links ends n m) directory.now) a.0 items.now).answer.number }
+    ensures { claim_no result ≡ (remove_node_filed (filed (entering weights.now heads.now registers.now links.now ends.now n m) directory.now) a.0 items.now).answer.number }
 {
     if !fits(weights, heads, registers, links, ends, n, m) {
         return Claim::Refused(Refusal::Tables);
@@ -69,9 +69,9 @@ pub fn take_node(
     items: &mut [u32],
 ) -> NodeRemoved
     requires { ReadyFiled (filed (net weights.old heads.old registers.old links.old ends.old n.old m.old) directory.old) a.0 (length items.old) }
-    ensures { ClosesFiled (length directory.old) result (leaving weights heads registers links ends n.new m.new) items.new directory.new
-        (closed (entering weights heads registers links ends n.old m.old) a.0 items.old
-        (stripped (entering weights heads registers links ends n.old m.old) a.0)) }
+    ensures { ClosesFiled (length directory.old) result (leaving weights.new heads.new registers.new links.new ends.new n.new m.new) items.new directory.new
+        (closed (entering weights.old heads.old registers.old links.old ends.old n.old m.old) a.0 items.old
+        (stripped (entering weights.old heads.old registers.old links.old ends.old n.old m.old) a.0)) }
 {
     let weight = weights[a.index()];
     let nodes = *n;

@@ -102,12 +102,12 @@ module _ (f : Filed) (a b w : ℕ) where
 
 -- edge e is found: its claim decides
 pub update_told : (weights : List ℤ) (heads : List ℕ) (registers : Lent ℕ) (links ends : List ℕ) (n m : ℕ) (directory : Lent ℕ) (a b w e : ℕ) (c : Claim)
-    → done e ≡ find_edge (net weights heads registers.entry.now links ends n m) a b → Reweighs registers directory e w c
-    → out (granted e 0 c) (filed (net weights heads registers.exit.now links ends n m) directory.exit.now)
-    ≡ update_edge_filed (filed (net weights heads registers.entry.now links ends n m) directory.entry.now) a b w
+    → done e ≡ find_edge (net weights heads registers.old links ends n m) a b → Reweighs registers directory e w c
+    → out (granted e 0 c) (filed (net weights heads registers.new links ends n m) directory.new)
+    ≡ update_edge_filed (filed (net weights heads registers.old links ends n m) directory.old) a b w
 unfolding update_edge_filed
 update_told weights heads registers links ends n m directory a b w e c p q =
-    let f = filed (net weights heads registers.entry.now links ends n m) directory.entry.now in
+    let f = filed (net weights heads registers.old links ends n m) directory.old in
     let o = update_edge f.net a b w in
     let z = found_so f.net a b w e p in
     beside-served f o (cond (ltb o.answer.values m) (reweighed f 0 o.answer.values w o) (entered f w o)) e _ _ z.0

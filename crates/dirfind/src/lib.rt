@@ -1,4 +1,6 @@
 // An edge updated in a network with a directory.
+#![tactic(auto)]
+
 ghost use Rattle.std.specs.Prelude.{◌≡◌};
 ghost use Rattle.tables.specs.Net.{entering, leaving};
 ghost use Rattle.tables.specs.Answers.{out, told_edge};
@@ -24,8 +26,8 @@ pub fn update_edge(
     b: NodeIndex,
     w: u32,
 ) -> EdgeAnswer
-    ensures { out (toldEdge result) (filed (leaving weights heads registers links ends n m.new) directory.new)
-        ≡ update_edge_filed (filed (entering weights heads registers links ends n m.old) directory.old) a.0 b.0 w }
+    ensures { out (told_edge result) (filed (leaving weights.now heads.new registers.new links.new ends.new n m.new) directory.new)
+        ≡ update_edge_filed (filed (entering weights.now heads.old registers.old links.old ends.old n m.old) directory.old) a.0 b.0 w }
 {
     match find_edge(weights, heads, registers, links, ends, n, *m, a, b) {
         EdgeAnswer::Edge(e) => match reweigh(registers, directory, e, w) {

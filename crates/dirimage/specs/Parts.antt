@@ -11,13 +11,13 @@ use Rattle.dirimage.specs.Loading.{filing}
 
 -- whether the rows can be filed, and then what the directory is
 pub record Enters (number : ℕ → ℕ) (m : ℕ) (directory : Lent ℕ) (r : Claim) : Type 0 where
-  pub answer_is : r ≡ filing number m (length directory.entry.now)
-  pub directory_is : r ≡ Claim·.Free → directory.exit.now ≡ directory_of (length directory.entry.now) number m
+  pub answer_is : r ≡ filing number m (length directory.old)
+  pub directory_is : r ≡ Claim·.Free → directory.new ≡ directory_of (length directory.old) number m
 
 -- the same, and where they cannot be filed no entry is left
 pub record Files (number : ℕ → ℕ) (m : ℕ) (directory : Lent ℕ) (r : Claim) : Type 0 where
-  pub answer_is : r ≡ filing number m (length directory.entry.now)
-  pub directory_is : directory.exit.now ≡ if_granted r (directory_of (length directory.entry.now) number m) (none directory.entry.now)
+  pub answer_is : r ≡ filing number m (length directory.old)
+  pub directory_is : directory.new ≡ if_granted r (directory_of (length directory.old) number m) (none directory.old)
 
 -- a load that was served without a directory has left tables that hold their rows
 abbrev pub LeavesFit : Changed → (weights heads registers links ends n m : ℕ) → Type 0

@@ -1,4 +1,6 @@
 // A network with a directory as bytes, and back. The image holds no directory: a load fills it.
+#![tactic(auto)]
+
 ghost use Rattle.std.specs.Prelude.{◌≡◌};
 ghost use Rattle.tables.specs.Net.{entering, leaving};
 ghost use Rattle.tables.specs.Answers.{out, told_items, told_change};
@@ -25,8 +27,8 @@ pub fn image_write(
     directory: &[u32],
     bytes: &mut [u8],
 ) -> Items
-    ensures { out (toldItems result) bytes.new
-        ≡ image_write_filed (filed (entering weights heads registers links ends n m) directory.now) bytes.old }
+    ensures { out (told_items result) bytes.new
+        ≡ image_write_filed (filed (entering weights.now heads.now registers.now links.now ends.now n m) directory.now) bytes.old }
 {
     if !fits(weights, heads, registers, links, ends, n, m) {
         return Items::Refused(Refusal::Tables);
@@ -49,8 +51,8 @@ pub fn image_read(
     directory: &mut [u32],
     bytes: &[u8],
 ) -> Changed
-    ensures { out (toldChange result) (filed (leaving weights heads registers links ends n.new m.new) directory.new)
-        ≡ image_read_filed (filed (entering weights heads registers links ends n.old m.old) directory.old) bytes.now }
+    ensures { out (told_change result) (filed (leaving weights.new heads.new registers.new links.new ends.new n.new m.new) directory.new)
+        ≡ image_read_filed (filed (entering weights.old heads.old registers.old links.old ends.old n.old m.old) directory.old) bytes.now }
 {
     let told = image::image_read(weights, heads, registers, links, ends, n, m, bytes);
     fill_by(

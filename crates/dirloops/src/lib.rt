@@ -1,4 +1,6 @@
 // The bench's loops on a network with a directory, beside those of `loops`: one call from C for many operations.
+#![tactic(auto)]
+
 ghost use Rattle.std.specs.Prelude.{◌≡◌};
 ghost use Rattle.tables.specs.Net.{entering, leaving};
 ghost use Rattle.directory.specs.Directory.{filed};
@@ -24,8 +26,8 @@ pub extern "C" fn loop_dir_add_edges(
     directory: &mut [u32],
     edges: &[u32],
 ) -> u64
-    ensures { sums result (filed (leaving weights heads registers links ends n m.new) directory.new)
-        ≡ add_edges_filed (filed (entering weights heads registers links ends n m.old) directory.old) edges.now }
+    ensures { sums result (filed (leaving weights.now heads.new registers.new links.new ends.new n m.new) directory.new)
+        ≡ add_edges_filed (filed (entering weights.now heads.old registers.old links.old ends.old n m.old) directory.old) edges.now }
 {
     let mut sum: u64 = 0;
     let mut i: usize = 0;
@@ -56,7 +58,7 @@ pub extern "C" fn loop_find_numbers(
     directory: &[u32],
     numbers: &[u32],
 ) -> u64
-    ensures { result ≡ find_numbers (filed (entering weights heads registers links ends n m) directory.now) numbers.now }
+    ensures { result ≡ find_numbers (filed (entering weights.now heads.now registers.now links.now ends.now n m) directory.now) numbers.now }
 {
     let mut sum: u64 = 0;
     let mut i: usize = 0;
@@ -82,8 +84,8 @@ pub extern "C" fn loop_remove_numbers(
     directory: &mut [u32],
     numbers: &[u32],
 ) -> u64
-    ensures { sums result (filed (leaving weights heads registers links ends n m.new) directory.new)
-        ≡ remove_numbers (filed (entering weights heads registers links ends n m.old) directory.old) numbers.now }
+    ensures { sums result (filed (leaving weights.now heads.new registers.new links.new ends.new n m.new) directory.new)
+        ≡ remove_numbers (filed (entering weights.now heads.old registers.old links.old ends.old n m.old) directory.old) numbers.now }
 {
     let mut sum: u64 = 0;
     let mut i: usize = 0;

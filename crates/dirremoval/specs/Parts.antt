@@ -14,4 +14,4 @@ directory_after (EdgeRemoved·.Refused why) registers m e directory = directory
 -- what the part without a directory promises, whole; and the directory
 pub record TakesOutFiled (heads registers links ends : Lent ℕ) (n : ℕ) (m : Count) (directory : Lent ℕ) (e : ℕ) (r : EdgeRemoved) : Type 0 where
   pub taken : TakesOut heads registers links ends n m e r
-  pub directory_is : directory.exit.now ≡ directory_after r registers.exit.now m.exit.now e directory.entry.now
+  pub directory_is : directory.new ≡ directory_after r registers.new m.new e directory.old

@@ -1,4 +1,6 @@
 // Taking an edge out of a network with a directory.
+#![tactic(auto)]
+
 ghost use Rattle.std.specs.Prelude.{◌≡◌};
 ghost use Rattle.tables.specs.Net.{entering, leaving};
 ghost use Rattle.tables.specs.Answers.{out};
@@ -26,8 +28,8 @@ pub fn remove_edge(
     directory: &mut [u32],
     e: EdgeIndex,
 ) -> EdgeRemoved
-    ensures { out (told_edge_removed result) (filed (leaving weights heads registers links ends n m.new) directory.new)
-        ≡ remove_edge_filed (filed (entering weights heads registers links ends n m.old) directory.old) e.0 }
+    ensures { out (told_edge_removed result) (filed (leaving weights.now heads.new registers.new links.new ends.new n m.new) directory.new)
+        ≡ remove_edge_filed (filed (entering weights.now heads.old registers.old links.old ends.old n m.old) directory.old) e.0 }
 {
     let edges = *m;
     if !fits(weights, heads, registers, links, ends, n, edges) {

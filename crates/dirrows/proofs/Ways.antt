@@ -107,13 +107,13 @@ granted values zeros (Claim·.Refused why) = refused why zeros
 
 module _ (weights : List ℤ) (heads : List ℕ) (registers : Lent ℕ) (links ends : List ℕ) (n m : ℕ) (directory : Lent ℕ) (e w : ℕ) where
   abbrev before : Filed
-  before = filed (net weights heads registers.entry.now links ends n m) directory.entry.now
+  before = filed (net weights heads registers.old links ends n m) directory.old
 
   abbrev after : Filed
-  after = filed (net weights heads registers.exit.now links ends n m) directory.exit.now
+  after = filed (net weights heads registers.new links ends n m) directory.new
 
   abbrev reset : Net
-  reset = net weights heads (set registers.entry.now e w) links ends n m
+  reset = net weights heads (set registers.old e w) links ends n m
 
   pub reweighed_so : {A : Type 0} (zeros values : A) (o : Out A Net) (c : Claim) → out (done values) reset ≡ o → Reweighs registers directory e w c
       → out (granted values zeros c) after ≡ reweighed before zeros e w o

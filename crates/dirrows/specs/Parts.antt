@@ -24,6 +24,6 @@ if_granted (Claim·.Refused why) changed column = column
 
 -- what the part that changes a row's number answers and leaves
 pub record Reweighs (registers directory : Lent ℕ) (e w : ℕ) (r : Claim) : Type 0 where
-  pub answer_is : r ≡ reclaimed (register_in registers.entry.now) directory.entry.now e w
-  pub registers_are : registers.exit.now ≡ if_granted r (set registers.entry.now e w) registers.entry.now
-  pub directory_is : directory.exit.now ≡ if_granted r (reentered (register_in registers.entry.now) directory.entry.now e w) directory.entry.now
+  pub answer_is : r ≡ reclaimed (register_in registers.old) directory.old e w
+  pub registers_are : registers.new ≡ if_granted r (set registers.old e w) registers.old
+  pub directory_is : directory.new ≡ if_granted r (reentered (register_in registers.old) directory.old e w) directory.old

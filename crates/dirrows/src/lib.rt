@@ -1,4 +1,6 @@
 // Edges added, reweighted and cleared in a network with a directory.
+#![tactic(auto)]
+
 ghost use Rattle.std.specs.Prelude.{◌≡◌};
 ghost use Rattle.tables.specs.Net.{entering, leaving};
 ghost use Rattle.tables.specs.Answers.{out, told_edge, told_change};
@@ -27,8 +29,8 @@ pub fn add_edge(
     b: NodeIndex,
     w: u32,
 ) -> EdgeAnswer
-    ensures { out (toldEdge result) (filed (leaving weights heads registers links ends n m.new) directory.new)
-        ≡ add_edge_filed (filed (entering weights heads registers links ends n m.old) directory.old) a.0 b.0 w }
+    ensures { out (told_edge result) (filed (leaving weights.now heads.new registers.new links.new ends.new n m.new) directory.new)
+        ≡ add_edge_filed (filed (entering weights.now heads.old registers.old links.old ends.old n m.old) directory.old) a.0 b.0 w }
 {
     let e = *m;
     match addable(weights, heads, registers, links, ends, n, e, a, b) {
@@ -58,8 +60,8 @@ pub fn set_edge_weight(
     e: EdgeIndex,
     w: u32,
 ) -> Changed
-    ensures { out (toldChange result) (filed (leaving weights heads registers links ends n m) directory.new)
-        ≡ set_edge_weight_filed (filed (entering weights heads registers links ends n m) directory.old) e.0 w }
+    ensures { out (told_change result) (filed (leaving weights.now heads.now registers.new links.now ends.now n m) directory.new)
+        ≡ set_edge_weight_filed (filed (entering weights.now heads.now registers.old links.now ends.now n m) directory.old) e.0 w }
 {
     if !fits(weights, heads, registers, links, ends, n, m) {
         return Changed::Refused(Refusal::Tables);
@@ -84,8 +86,8 @@ pub fn clear_edges(
     m: &mut u32,
     directory: &mut [u32],
 ) -> Changed
-    ensures { out (toldChange result) (filed (leaving weights heads registers links ends n m.new) directory.new)
-        ≡ clear_edges_filed (filed (entering weights heads registers links ends n m.old) directory.old) }
+    ensures { out (told_change result) (filed (leaving weights.now heads.new registers.new links.new ends.new n m.new) directory.new)
+        ≡ clear_edges_filed (filed (entering weights.now heads.old registers.old links.old ends.old n m.old) directory.old) }
 {
     match rows::clear_edges(weights, heads, registers, links, ends, n, m) {
         Changed::Refused(why) => Changed::Refused(why),
@@ -107,8 +109,8 @@ pub fn clear(
     m: &mut u32,
     directory: &mut [u32],
 ) -> Changed
-    ensures { out (toldChange result) (filed (leaving weights heads registers links ends n.new m.new) directory.new)
-        ≡ clear_filed (filed (entering weights heads registers links ends n.old m.old) directory.old) }
+    ensures { out (told_change result) (filed (leaving weights.new heads.new registers.new links.new ends.new n.new m.new) directory.new)
+        ≡ clear_filed (filed (entering weights.old heads.old registers.old links.old ends.old n.old m.old) directory.old) }
 {
     match rows::clear(weights, heads, registers, links, ends, n, m) {
         Changed::Refused(why) => Changed::Refused(why),

@@ -1,6 +1,6 @@
 // What the calls are made of: the tests, which change nothing, and the change of a number.
 ghost use Rattle.std.specs.Prelude.{◌≡◌, ◌<◌, length};
-ghost use Rattle.tables.specs.Net.{entering};
+ghost use Rattle.tables.specs.Net.{entering, held};
 ghost use Rattle.dirrows.specs.Calls.{claimed};
 ghost use Rattle.dirrows.specs.Parts.{Adds, Reweighs};
 
@@ -9,7 +9,7 @@ use index::{EdgeIndex, NodeIndex, Refusal};
 use tables::parts::fits;
 
 // What stands against a request: nothing, or the refusal that it gets.
-#[derive(Drop)]
+#[derive(Clone, Copy)]
 pub enum Claim {
     Free,
     Refused(Refusal),
@@ -27,7 +27,7 @@ pub fn addable(
     a: NodeIndex,
     b: NodeIndex,
 ) -> Claim
-    ensures { Adds (entering weights heads registers links ends n m) a.0 b.0 result }
+    ensures { Adds (entering weights.now heads.now registers.now links.now ends.now n m) a.0 b.0 result }
 {
     if !fits(weights, heads, registers, links, ends, n, m) {
         return Claim::Refused(Refusal::Tables);
@@ -64,7 +64,7 @@ pub fn free_for(directory: &[u32], w: u32, e: EdgeIndex) -> Claim
 // Row e gets number w, and its entry moves; refused 6, 12, 11.
 pub fn reweigh(registers: &mut [u32], directory: &mut [u32], e: EdgeIndex, w: u32) -> Claim
     requires { e.0 < length registers.old }
-    ensures { Reweighs registers directory e.0 w result }
+    ensures { Reweighs (held registers.old registers.new) (held directory.old directory.new) e.0 w result }
 {
     if !named(registers, directory, e) {
         return Claim::Refused(Refusal::Broken);

@@ -1,4 +1,6 @@
 // The check of a network with a directory.
+#![tactic(auto)]
+
 ghost use Rattle.std.specs.Prelude.{◌≡◌};
 ghost use Rattle.tables.specs.Net.{entering};
 ghost use Rattle.directory.specs.Directory.{filed};
@@ -19,7 +21,7 @@ pub fn check(
     m: u32,
     directory: &[u32],
 ) -> Checked
-    ensures { result ≡ checked_filed (filed (entering weights heads registers links ends n m) directory.now) }
+    ensures { result ≡ checked_filed (filed (entering weights.now heads.now registers.now links.now ends.now n m) directory.now) }
 {
     match sound::check(weights, heads, registers, links, ends, n, m) {
         Checked::Fault(d, a) => Checked::Fault(d, a),

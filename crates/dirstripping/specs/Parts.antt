@@ -14,4 +14,4 @@ pub record StrippableFiled (heads registers links ends : List ℕ) (n m : ℕ) (
 -- what the part without a directory promises, whole; and the directory is that of what is left
 pub record StripsFiled (heads registers links ends : Lent ℕ) (n : ℕ) (m : Count) (directory : Lent ℕ) (a : ℕ) (items : Lent ℕ) (r : Stripped) : Type 0 where
   pub strips : Strips heads registers links ends n m a items r
-  pub directory_is : directory.exit.now ≡ directory_of (length directory.entry.now) (register_in registers.exit.now) m.exit.now
+  pub directory_is : directory.new ≡ directory_of (length directory.old) (register_in registers.new) m.new

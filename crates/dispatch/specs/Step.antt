@@ -2,9 +2,8 @@
 use Rattle.std.specs.Prelude.{ℕ, cond, List, eqb, ℤ}
 use Rattle.index.specs.declared.Refusal.TheVariants.{NotCommand}
 use Rattle.index.specs.Refusals.{refusal_no}
-use Rattle.tables.specs.Net.{Lent, Net, entering, leaving}
+use Rattle.tables.specs.Net.{Net, entering, leaving}
 use Rattle.legs.specs.Legs.{Tables3, tables3}
-use Rattle.removal.specs.Parts.{Count}
 use Rattle.reply.specs.declared.Reply.{Reply}
 use Rattle.reply.specs.Replies.{bare_reply}
 use Rattle.commands.specs.Commands.{Replied, replied, add_node_line, add_edge_line, update_edge_line, remove_edge_line, remove_node_line, clear_edges_line, clear_line}
@@ -61,12 +60,10 @@ step letter o s =
     (no_command s))))))))))))))
 
 -- the state as the dispatch finds it, and as it leaves it
-abbrev pub found : Lent ℤ → Lent ℕ → Lent ℕ → Lent ℕ → Lent ℕ → Count → Count → Lent ℕ → Lent ℕ → Lent ℕ → State
+abbrev pub found : List ℤ → List ℕ → List ℕ → List ℕ → List ℕ → ℕ → ℕ → List ℕ → List ℕ → List ℕ → State
 found weights heads registers links ends n m items sources targets =
-    state (entering weights heads registers links ends n.entry.now m.entry.now)
-    (tables3 items.entry.now sources.entry.now targets.entry.now)
+    state (entering weights heads registers links ends n m) (tables3 items sources targets)
 
-abbrev pub left : Lent ℤ → Lent ℕ → Lent ℕ → Lent ℕ → Lent ℕ → Count → Count → Lent ℕ → Lent ℕ → Lent ℕ → State
+abbrev pub left : List ℤ → List ℕ → List ℕ → List ℕ → List ℕ → ℕ → ℕ → List ℕ → List ℕ → List ℕ → State
 left weights heads registers links ends n m items sources targets =
-    state (leaving weights heads registers links ends n.exit.now m.exit.now)
-    (tables3 items.exit.now sources.exit.now targets.exit.now)
+    state (leaving weights heads registers links ends n m) (tables3 items sources targets)

@@ -1,4 +1,6 @@
 // The letter of a script line chooses the command.
+#![tactic(auto)]
+
 ghost use Rattle.std.specs.Prelude.{◌≡◌};
 ghost use Rattle.tables.specs.Net.{entering};
 ghost use Rattle.legs.specs.Legs.{tables3};
@@ -15,7 +17,7 @@ use index::Refusal;
 use reply::Reply;
 
 // The numbers behind a letter: the node weight of an N, or up to three others.
-#[derive(Drop)]
+#[derive(Clone, Copy)]
 pub struct Numbers {
     pub w: i32,
     pub a: u32,
@@ -39,8 +41,8 @@ pub fn dispatch(
     letter: u8,
     o: Numbers,
 ) -> Reply
-    ensures { replied result (left weights heads registers links ends n m items sources targets)
-        ≡ step letter o (found weights heads registers links ends n m items sources targets) }
+    ensures { replied result (left weights.new heads.new registers.new links.new ends.new n.new m.new items.new sources.new targets.new)
+        ≡ step letter o (found weights.old heads.old registers.old links.old ends.old n.old m.old items.old sources.old targets.old) }
 {
     let nodes = *n;
     let edges = *m;
@@ -74,8 +76,8 @@ fn take_out(
     o: Numbers,
 ) -> Reply
     requires { NotAdding letter }
-    ensures { replied result (left weights heads registers links ends n m items sources targets)
-        ≡ step letter o (found weights heads registers links ends n m items sources targets) }
+    ensures { replied result (left weights.new heads.new registers.new links.new ends.new n.new m.new items.new sources.new targets.new)
+        ≡ step letter o (found weights.old heads.old registers.old links.old ends.old n.old m.old items.old sources.old targets.old) }
 {
     let nodes = *n;
     let edges = *m;
@@ -107,8 +109,8 @@ fn tell(
     o: Numbers,
 ) -> Reply
     requires { NotChanging letter }
-    ensures { replied result (state (entering weights heads registers links ends n m) (tables3 items.new sources.new targets.new))
-        ≡ step letter o (state (entering weights heads registers links ends n m) (tables3 items.old sources.old targets.old)) }
+    ensures { replied result (state (entering weights.now heads.now registers.now links.now ends.now n m) (tables3 items.new sources.new targets.new))
+        ≡ step letter o (state (entering weights.now heads.now registers.now links.now ends.now n m) (tables3 items.old sources.old targets.old)) }
 {
     match letter {
         b'F' => find_edge_line(weights, heads, registers, links, ends, n, m, o.a, o.b),

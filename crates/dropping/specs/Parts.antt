@@ -11,7 +11,7 @@ use Rattle.dropping.specs.Drop.{ended}
 pub record Renumbers (links : List ℕ) (ends : Lent ℕ) (m k link a rows : ℕ) : Type 0 where
   pub rows_are : rows ≡ length (rows_from links m k link)
   pub few : rows ≤ m
-  pub ends_are : ends.exit.now ≡ ended k a (rows_from links m k link) ends.entry.now
+  pub ends_are : ends.new ≡ ended k a (rows_from links m k link) ends.old
 
 -- the columns hold the nodes a and b
 pub record NodePair (weights heads a b : ℕ) : Type 0 where
@@ -20,8 +20,8 @@ pub record NodePair (weights heads a b : ℕ) : Type 0 where
 
 -- row b is copied over row a, and becomes vacant
 pub record MovesNode (weights : Lent ℤ) (heads : Lent ℕ) (a b : ℕ) : Type 0 where
-  pub weights_are : weights.exit.now ≡ set (set weights.entry.now a (get_or weights.entry.now b (pos 0))) b (pos 0)
-  pub heads_are : heads.exit.now ≡ heads_with (heads_with heads.entry.now a (node_row (net [] heads.entry.now [] [] [] 0 0) b)) b vacant_node
+  pub weights_are : weights.new ≡ set (set weights.old a (get_or weights.old b (pos 0))) b (pos 0)
+  pub heads_are : heads.new ≡ heads_with (heads_with heads.old a (node_row (net [] heads.old [] [] [] 0 0) b)) b vacant_node
 
 -- the columns hold n nodes, of which a is one, and m edges
 pub record Droppable (weights heads links ends n m a : ℕ) : Type 0 where
@@ -35,10 +35,10 @@ pub record Droppable (weights heads links ends n m a : ℕ) : Type 0 where
 
 -- the last node has the number a, and so have the ends of its edges; their rows are counted
 pub record Drops (weights : Lent ℤ) (heads : Lent ℕ) (links : List ℕ) (ends : Lent ℕ) (n : Count) (m a rows : ℕ) : Type 0 where
-  pub nodes : n.exit.now ≡ n.entry.now - 1
-  pub moved : MovesNode weights heads a (n.entry.now - 1)
-  pub rows_are : rows ≡ length (rows_from links m 0 (get_or heads.entry.now (node_cell (n.entry.now - 1) 0) 0)) + length (rows_from links m 1 (get_or heads.entry.now (node_cell (n.entry.now - 1) 1) 0))
+  pub nodes : n.new ≡ n.old - 1
+  pub moved : MovesNode weights heads a (n.old - 1)
+  pub rows_are : rows ≡ length (rows_from links m 0 (get_or heads.old (node_cell (n.old - 1) 0) 0)) + length (rows_from links m 1 (get_or heads.old (node_cell (n.old - 1) 1) 0))
   pub few : rows ≤ m + m
-  pub ends_are : ends.exit.now
-      ≡ ended 1 a (rows_from links m 1 (get_or heads.entry.now (node_cell (n.entry.now - 1) 1) 0))
-      (ended 0 a (rows_from links m 0 (get_or heads.entry.now (node_cell (n.entry.now - 1) 0) 0)) ends.entry.now)
+  pub ends_are : ends.new
+      ≡ ended 1 a (rows_from links m 1 (get_or heads.old (node_cell (n.old - 1) 1) 0))
+      (ended 0 a (rows_from links m 0 (get_or heads.old (node_cell (n.old - 1) 0) 0)) ends.old)

@@ -1,2 +1,4 @@
 // A node without edges dropped.
+#![tactic(auto)]
+
 pub mod parts;

@@ -1,5 +1,7 @@
 // The two endings of a run that is not done, as `netrun` prints them: the last bytes of what is printed of a script whose answer lines do not
 // all fit, and of one that is too long. Every line of these scripts is empty, and is told `? 10`.
+#![tactic(auto)]
+
 ghost use Rattle.std.specs.Prelude.{◌≤◌};
 
 use io::write_all;

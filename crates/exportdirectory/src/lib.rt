@@ -1,4 +1,6 @@
 // The calls with a directory for other languages. Each function passes on to the call of its name.
+#![tactic(auto)]
+
 ghost use Rattle.std.specs.Prelude.{◌≡◌};
 ghost use Rattle.tables.specs.Net.{entering, leaving};
 ghost use Rattle.tables.specs.Answers.{out};
@@ -43,7 +45,7 @@ pub extern "C" fn net_dir_check(
     node: &mut u32,
 ) -> u32
     ensures { told result (rows.new, direction.new, node.new)
-        ≡ told_checked (checked_filed (filed (entering weights heads registers links ends n m) directory.now)) }
+        ≡ told_checked (checked_filed (filed (entering weights.now heads.now registers.now links.now ends.now n m) directory.now)) }
 {
     let answer = check(weights, heads, registers, links, ends, n, m, directory);
     tell_check(answer, rows, direction, node)
@@ -65,8 +67,8 @@ pub extern "C" fn net_dir_add_edge(
     w: u32,
     edge: &mut u32,
 ) -> u32
-    ensures { out (told result edge.new) (filed (leaving weights heads registers links ends n m.new) directory.new)
-        ≡ add_edge_filed (filed (entering weights heads registers links ends n m.old) directory.old) a b w }
+    ensures { out (told result edge.new) (filed (leaving weights.now heads.new registers.new links.new ends.new n m.new) directory.new)
+        ≡ add_edge_filed (filed (entering weights.now heads.old registers.old links.old ends.old n m.old) directory.old) a b w }
 {
     let answer = add_edge(
         weights,
@@ -100,8 +102,8 @@ pub extern "C" fn net_dir_update_edge(
     w: u32,
     edge: &mut u32,
 ) -> u32
-    ensures { out (told result edge.new) (filed (leaving weights heads registers links ends n m.new) directory.new)
-        ≡ update_edge_filed (filed (entering weights heads registers links ends n m.old) directory.old) a b w }
+    ensures { out (told result edge.new) (filed (leaving weights.now heads.new registers.new links.new ends.new n m.new) directory.new)
+        ≡ update_edge_filed (filed (entering weights.now heads.old registers.old links.old ends.old n m.old) directory.old) a b w }
 {
     let answer = update_edge(
         weights,
@@ -133,8 +135,8 @@ pub extern "C" fn net_dir_set_edge_weight(
     e: u32,
     w: u32,
 ) -> u32
-    ensures { out (told result tt) (filed (leaving weights heads registers links ends n m) directory.new)
-        ≡ set_edge_weight_filed (filed (entering weights heads registers links ends n m) directory.old) e w }
+    ensures { out (told result tt) (filed (leaving weights.now heads.now registers.new links.now ends.now n m) directory.new)
+        ≡ set_edge_weight_filed (filed (entering weights.now heads.now registers.old links.now ends.now n m) directory.old) e w }
 {
     let answer = set_edge_weight(
         weights,
@@ -167,8 +169,8 @@ pub extern "C" fn net_dir_remove_edge(
     moved: &mut u32,
     rows: &mut u32,
 ) -> u32
-    ensures { out (told result (weight.new, moved.new, rows.new)) (filed (leaving weights heads registers links ends n m.new) directory.new)
-        ≡ remove_edge_filed (filed (entering weights heads registers links ends n m.old) directory.old) e }
+    ensures { out (told result (weight.new, moved.new, rows.new)) (filed (leaving weights.now heads.new registers.new links.new ends.new n m.new) directory.new)
+        ≡ remove_edge_filed (filed (entering weights.now heads.old registers.old links.old ends.old n m.old) directory.old) e }
 {
     let answer: EdgeRemoved = remove_edge(
         weights,
@@ -202,8 +204,8 @@ pub extern "C" fn net_dir_remove_node(
     count: &mut u32,
 ) -> u32
     ensures { out (told result (weight.new, rows.new, count.new))
-        (filed (leaving weights heads registers links ends n.new m.new) directory.new, items.new)
-        ≡ remove_node_filed (filed (entering weights heads registers links ends n.old m.old) directory.old) a items.old }
+        (filed (leaving weights.new heads.new registers.new links.new ends.new n.new m.new) directory.new, items.new)
+        ≡ remove_node_filed (filed (entering weights.old heads.old registers.old links.old ends.old n.old m.old) directory.old) a items.old }
 {
     let answer: NodeRemoved = remove_node(
         weights,
@@ -232,8 +234,8 @@ pub extern "C" fn net_dir_clear_edges(
     m: &mut u32,
     directory: &mut [u32],
 ) -> u32
-    ensures { out (told result tt) (filed (leaving weights heads registers links ends n m.new) directory.new)
-        ≡ clear_edges_filed (filed (entering weights heads registers links ends n m.old) directory.old) }
+    ensures { out (told result tt) (filed (leaving weights.now heads.new registers.new links.new ends.new n m.new) directory.new)
+        ≡ clear_edges_filed (filed (entering weights.now heads.old registers.old links.old ends.old n m.old) directory.old) }
 {
     let answer = clear_edges(weights, heads, registers, links, ends, n, m, directory);
     tell_change(answer)
@@ -251,8 +253,8 @@ pub extern "C" fn net_dir_clear(
     m: &mut u32,
     directory: &mut [u32],
 ) -> u32
-    ensures { out (told result tt) (filed (leaving weights heads registers links ends n.new m.new) directory.new)
-        ≡ clear_filed (filed (entering weights heads registers links ends n.old m.old) directory.old) }
+    ensures { out (told result tt) (filed (leaving weights.new heads.new registers.new links.new ends.new n.new m.new) directory.new)
+        ≡ clear_filed (filed (entering weights.old heads.old registers.old links.old ends.old n.old m.old) directory.old) }
 {
     let answer = clear(weights, heads, registers, links, ends, n, m, directory);
     tell_change(answer)
@@ -273,7 +275,7 @@ pub extern "C" fn net_dir_image_write(
     length: &mut u32,
 ) -> u32
     ensures { out (told result length.new) bytes.new
-        ≡ image_write_filed (filed (entering weights heads registers links ends n m) directory.now) bytes.old }
+        ≡ image_write_filed (filed (entering weights.now heads.now registers.now links.now ends.now n m) directory.now) bytes.old }
 {
     let answer = image_write(
         weights, heads, registers, links, ends, n, m, directory, bytes,
@@ -294,8 +296,8 @@ pub extern "C" fn net_dir_image_read(
     directory: &mut [u32],
     bytes: &[u8],
 ) -> u32
-    ensures { out (told result tt) (filed (leaving weights heads registers links ends n.new m.new) directory.new)
-        ≡ image_read_filed (filed (entering weights heads registers links ends n.old m.old) directory.old) bytes.now }
+    ensures { out (told result tt) (filed (leaving weights.new heads.new registers.new links.new ends.new n.new m.new) directory.new)
+        ≡ image_read_filed (filed (entering weights.old heads.old registers.old links.old ends.old n.old m.old) directory.old) bytes.now }
 {
     let answer = image_read(
         weights, heads, registers, links, ends, n, m, directory, bytes,
@@ -317,7 +319,7 @@ pub extern "C" fn net_dir_find_number(
     r: u32,
     edge: &mut u32,
 ) -> u32
-    ensures { told result edge.new ≡ find_number (filed (entering weights heads registers links ends n m) directory.now) r }
+    ensures { told result edge.new ≡ find_number (filed (entering weights.now heads.now registers.now links.now ends.now n m) directory.now) r }
 {
     let answer = find_number(weights, heads, registers, links, ends, n, m, directory, r);
     tell_edge(answer, edge)
@@ -339,8 +341,8 @@ pub extern "C" fn net_dir_remove_number(
     moved: &mut u32,
     rows: &mut u32,
 ) -> u32
-    ensures { out (told result (weight.new, moved.new, rows.new)) (filed (leaving weights heads registers links ends n m.new) directory.new)
-        ≡ remove_number (filed (entering weights heads registers links ends n m.old) directory.old) r }
+    ensures { out (told result (weight.new, moved.new, rows.new)) (filed (leaving weights.now heads.new registers.new links.new ends.new n m.new) directory.new)
+        ≡ remove_number (filed (entering weights.now heads.old registers.old links.old ends.old n m.old) directory.old) r }
 {
     let answer: EdgeRemoved = remove_number(
         weights, heads, registers, links, ends, n, m, directory, r,

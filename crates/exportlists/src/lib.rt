@@ -1,4 +1,6 @@
 // Lists for other languages: walks, searches, the walker, the sum, the check. Each function passes on to the call of its name.
+#![tactic(auto)]
+
 ghost use Rattle.std.specs.Prelude.{◌≡◌};
 ghost use Rattle.tables.specs.Net.{entering, leaving};
 ghost use Rattle.tables.specs.Answers.{out};
@@ -34,7 +36,7 @@ pub extern "C" fn net_neighbors(
     count: &mut u32,
 ) -> u32
     ensures { out (told result count.new) items.new
-        ≡ neighbors (entering weights heads registers links ends n m) a items.old }
+        ≡ neighbors (entering weights.now heads.now registers.now links.now ends.now n m) a items.old }
 {
     let answer = neighbors(
         weights,
@@ -65,7 +67,7 @@ pub extern "C" fn net_edge_weights(
     count: &mut u32,
 ) -> u32
     ensures { out (told result count.new) items.new
-        ≡ edge_weights (entering weights heads registers links ends n m) a items.old }
+        ≡ edge_weights (entering weights.now heads.now registers.now links.now ends.now n m) a items.old }
 {
     let answer = edge_weights(
         weights,
@@ -97,7 +99,7 @@ pub extern "C" fn net_edges_between(
     count: &mut u32,
 ) -> u32
     ensures { out (told result count.new) items.new
-        ≡ edges_between (entering weights heads registers links ends n m) a b items.old }
+        ≡ edges_between (entering weights.now heads.now registers.now links.now ends.now n m) a b items.old }
 {
     let answer = edges_between(
         weights,
@@ -129,7 +131,7 @@ pub extern "C" fn net_edges_mut(
     count: &mut u32,
 ) -> u32
     ensures { out (told result count.new) items.new
-        ≡ edges_mut (entering weights heads registers links ends n m) a items.old }
+        ≡ edges_mut (entering weights.now heads.now registers.now links.now ends.now n m) a items.old }
 {
     let answer = edges_mut(
         weights,
@@ -160,7 +162,7 @@ pub extern "C" fn net_edge_weights_mut(
     count: &mut u32,
 ) -> u32
     ensures { out (told result count.new) items.new
-        ≡ edges_mut (entering weights heads registers links ends n m) a items.old }
+        ≡ edges_mut (entering weights.now heads.now registers.now links.now ends.now n m) a items.old }
 {
     let answer = edge_weights_mut(
         weights,
@@ -193,7 +195,7 @@ pub extern "C" fn net_edges(
     count: &mut u32,
 ) -> u32
     ensures { out (told result count.new) (tables3 numbers.new sources.new targets.new)
-        ≡ edges (entering weights heads registers links ends n m) a (tables3 numbers.old sources.old targets.old) }
+        ≡ edges (entering weights.now heads.now registers.now links.now ends.now n m) a (tables3 numbers.old sources.old targets.old) }
 {
     let answer = edges(
         weights,
@@ -225,7 +227,7 @@ pub extern "C" fn net_find_edge(
     b: u32,
     edge: &mut u32,
 ) -> u32
-    ensures { told result edge.new ≡ find_edge (entering weights heads registers links ends n m) a b }
+    ensures { told result edge.new ≡ find_edge (entering weights.now heads.now registers.now links.now ends.now n m) a b }
 {
     let answer = find_edge(
         weights,
@@ -255,7 +257,7 @@ pub extern "C" fn net_contains_edge(
     b: u32,
     found: &mut u32,
 ) -> u32
-    ensures { told result found.new ≡ contains_edge (entering weights heads registers links ends n m) a b }
+    ensures { told result found.new ≡ contains_edge (entering weights.now heads.now registers.now links.now ends.now n m) a b }
 {
     let answer = contains_edge(
         weights,
@@ -286,8 +288,8 @@ pub extern "C" fn net_update_edge(
     w: u32,
     edge: &mut u32,
 ) -> u32
-    ensures { out (told result edge.new) (leaving weights heads registers links ends n m.new)
-        ≡ update_edge (entering weights heads registers links ends n m.old) a b w }
+    ensures { out (told result edge.new) (leaving weights.now heads.new registers.new links.new ends.new n m.new)
+        ≡ update_edge (entering weights.now heads.old registers.old links.old ends.old n m.old) a b w }
 {
     let answer = update_edge(
         weights,
@@ -317,7 +319,7 @@ pub extern "C" fn net_sum_around(
     a: u32,
     sum: &mut i64,
 ) -> u32
-    ensures { told result sum.new ≡ sum_around (entering weights heads registers links ends n m) a }
+    ensures { told result sum.new ≡ sum_around (entering weights.now heads.now registers.now links.now ends.now n m) a }
 {
     let answer = sum_around(weights, heads, registers, links, ends, n, m, NodeIndex(a));
     tell_sum(answer, sum)
@@ -337,7 +339,7 @@ pub extern "C" fn net_check(
     direction: &mut u32,
     node: &mut u32,
 ) -> u32
-    ensures { told result (rows.new, direction.new, node.new) ≡ told_checked (checked (entering weights heads registers links ends n m)) }
+    ensures { told result (rows.new, direction.new, node.new) ≡ told_checked (checked (entering weights.now heads.now registers.now links.now ends.now n m)) }
 {
     let answer = check(weights, heads, registers, links, ends, n, m);
     tell_check(answer, rows, direction, node)
@@ -356,7 +358,7 @@ pub extern "C" fn net_walker_new(
     a: u32,
     walker: &mut [u32; 3],
 ) -> u32
-    ensures { told result walker.new ≡ told_in_cells (begin (entering weights heads registers links ends n m) a) }
+    ensures { told result walker.new ≡ told_in_cells (begin (entering weights.now heads.now registers.now links.now ends.now n m) a) }
 {
     let answer = Walker::new(weights, heads, registers, links, ends, n, m, NodeIndex(a));
     tell_walker(answer, walker)
@@ -376,7 +378,7 @@ pub extern "C" fn net_walker_next(
     neighbor: &mut u32,
 ) -> u32
     ensures { out (told result neighbor.new) walker.new
-        ≡ left_in_cells (step (entering weights heads registers links ends n m) (walker_in walker.old)) }
+        ≡ left_in_cells (step (entering weights.now heads.now registers.now links.now ends.now n m) (walker_in walker.old)) }
 {
     let w = walker_in(walker);
     let answer = w.step(weights, heads, registers, links, ends, n, m);

@@ -1,4 +1,6 @@
 // Removals and images for other languages. Each function passes on to the call of its name.
+#![tactic(auto)]
+
 ghost use Rattle.std.specs.Prelude.{◌≡◌};
 ghost use Rattle.tables.specs.Net.{entering, leaving};
 ghost use Rattle.tables.specs.Answers.{out};
@@ -28,8 +30,8 @@ pub extern "C" fn net_remove_edge(
     moved: &mut u32,
     rows: &mut u32,
 ) -> u32
-    ensures { out (told result (weight.new, moved.new, rows.new)) (leaving weights heads registers links ends n m.new)
-        ≡ remove_edge (entering weights heads registers links ends n m.old) e }
+    ensures { out (told result (weight.new, moved.new, rows.new)) (leaving weights.now heads.new registers.new links.new ends.new n m.new)
+        ≡ remove_edge (entering weights.now heads.old registers.old links.old ends.old n m.old) e }
 {
     let answer = remove_edge(weights, heads, registers, links, ends, n, m, EdgeIndex(e));
     tell_edge_removed(answer, weight, moved, rows)
@@ -51,8 +53,8 @@ pub extern "C" fn net_remove_node(
     rows: &mut u64,
     count: &mut u32,
 ) -> u32
-    ensures { out (told result (weight.new, rows.new, count.new)) (leaving weights heads registers links ends n.new m.new, items.new)
-        ≡ remove_node (entering weights heads registers links ends n.old m.old) a items.old }
+    ensures { out (told result (weight.new, rows.new, count.new)) (leaving weights.new heads.new registers.new links.new ends.new n.new m.new, items.new)
+        ≡ remove_node (entering weights.old heads.old registers.old links.old ends.old n.old m.old) a items.old }
 {
     let answer = remove_node(
         weights,
@@ -82,7 +84,7 @@ pub extern "C" fn net_image_write(
     length: &mut u32,
 ) -> u32
     ensures { out (told result length.new) bytes.new
-        ≡ image_write (entering weights heads registers links ends n m) bytes.old }
+        ≡ image_write (entering weights.now heads.now registers.now links.now ends.now n m) bytes.old }
 {
     let answer = image_write(weights, heads, registers, links, ends, n, m, bytes);
     tell_items(answer, length)
@@ -100,8 +102,8 @@ pub extern "C" fn net_image_read(
     m: &mut u32,
     bytes: &[u8],
 ) -> u32
-    ensures { out (told result tt) (leaving weights heads registers links ends n.new m.new)
-        ≡ image_read (entering weights heads registers links ends n.old m.old) bytes.now }
+    ensures { out (told result tt) (leaving weights.new heads.new registers.new links.new ends.new n.new m.new)
+        ≡ image_read (entering weights.old heads.old registers.old links.old ends.old n.old m.old) bytes.now }
 {
     let answer = image_read(weights, heads, registers, links, ends, n, m, bytes);
     tell_change(answer)

@@ -1,4 +1,6 @@
 // Rows for other languages: looked up, set, added, listed, cleared. Each function passes on to the call of its name.
+#![tactic(auto)]
+
 ghost use Rattle.std.specs.Prelude.{◌≡◌};
 ghost use Rattle.index.specs.Index.{direction_of};
 ghost use Rattle.tables.specs.Net.{entering, leaving};
@@ -30,7 +32,7 @@ pub extern "C" fn net_node_weight(
     a: u32,
     weight: &mut i32,
 ) -> u32
-    ensures { told result weight.new ≡ node_weight (entering weights heads registers links ends n m) a }
+    ensures { told result weight.new ≡ node_weight (entering weights.now heads.now registers.now links.now ends.now n m) a }
 {
     let answer = node_weight(weights, heads, registers, links, ends, n, m, NodeIndex(a));
     tell_node_weight(answer, weight)
@@ -49,7 +51,7 @@ pub extern "C" fn net_edge_weight(
     e: u32,
     weight: &mut u32,
 ) -> u32
-    ensures { told result weight.new ≡ edge_weight (entering weights heads registers links ends n m) e }
+    ensures { told result weight.new ≡ edge_weight (entering weights.now heads.now registers.now links.now ends.now n m) e }
 {
     let answer = edge_weight(weights, heads, registers, links, ends, n, m, EdgeIndex(e));
     tell_edge_weight(answer, weight)
@@ -69,7 +71,7 @@ pub extern "C" fn net_edge_endpoints(
     source: &mut u32,
     target: &mut u32,
 ) -> u32
-    ensures { told result (source.new, target.new) ≡ edge_endpoints (entering weights heads registers links ends n m) e }
+    ensures { told result (source.new, target.new) ≡ edge_endpoints (entering weights.now heads.now registers.now links.now ends.now n m) e }
 {
     let answer = edge_endpoints(weights, heads, registers, links, ends, n, m, EdgeIndex(e));
     tell_ends(answer, source, target)
@@ -89,7 +91,7 @@ pub extern "C" fn net_first_edge(
     direction: u32,
     edge: &mut u32,
 ) -> u32
-    ensures { told result edge.new ≡ first_edge (entering weights heads registers links ends n m) a (direction_of direction) }
+    ensures { told result edge.new ≡ first_edge (entering weights.now heads.now registers.now links.now ends.now n m) a (direction_of direction) }
 {
     let answer = first_edge(
         weights,
@@ -119,7 +121,7 @@ pub extern "C" fn net_next_edge(
     direction: u32,
     edge: &mut u32,
 ) -> u32
-    ensures { told result edge.new ≡ next_edge (entering weights heads registers links ends n m) e (direction_of direction) }
+    ensures { told result edge.new ≡ next_edge (entering weights.now heads.now registers.now links.now ends.now n m) e (direction_of direction) }
 {
     let answer = next_edge(
         weights,
@@ -148,8 +150,8 @@ pub extern "C" fn net_set_node_weight(
     a: u32,
     w: i32,
 ) -> u32
-    ensures { out (told result tt) (leaving weights heads registers links ends n m)
-        ≡ set_node_weight (entering weights heads registers links ends n m) a w }
+    ensures { out (told result tt) (leaving weights.new heads.now registers.now links.now ends.now n m)
+        ≡ set_node_weight (entering weights.old heads.now registers.now links.now ends.now n m) a w }
 {
     let answer = set_node_weight(
         weights,
@@ -178,8 +180,8 @@ pub extern "C" fn net_set_edge_weight(
     e: u32,
     w: u32,
 ) -> u32
-    ensures { out (told result tt) (leaving weights heads registers links ends n m)
-        ≡ set_edge_weight (entering weights heads registers links ends n m) e w }
+    ensures { out (told result tt) (leaving weights.now heads.now registers.new links.now ends.now n m)
+        ≡ set_edge_weight (entering weights.now heads.now registers.old links.now ends.now n m) e w }
 {
     let answer = set_edge_weight(
         weights,
@@ -208,8 +210,8 @@ pub extern "C" fn net_add_node(
     w: i32,
     node: &mut u32,
 ) -> u32
-    ensures { out (told result node.new) (leaving weights heads registers links ends n.new m)
-        ≡ add_node (entering weights heads registers links ends n.old m) w }
+    ensures { out (told result node.new) (leaving weights.new heads.new registers.now links.now ends.now n.new m)
+        ≡ add_node (entering weights.old heads.old registers.now links.now ends.now n.old m) w }
 {
     let answer = add_node(weights, heads, registers, links, ends, n, m, w);
     tell_node(answer, node)
@@ -230,8 +232,8 @@ pub extern "C" fn net_add_edge(
     w: u32,
     edge: &mut u32,
 ) -> u32
-    ensures { out (told result edge.new) (leaving weights heads registers links ends n m.new)
-        ≡ add_edge (entering weights heads registers links ends n m.old) a b w }
+    ensures { out (told result edge.new) (leaving weights.now heads.new registers.new links.new ends.new n m.new)
+        ≡ add_edge (entering weights.now heads.old registers.old links.old ends.old n m.old) a b w }
 {
     let answer = add_edge(
         weights,
@@ -262,7 +264,7 @@ pub extern "C" fn net_all_edge_weights(
     count: &mut u32,
 ) -> u32
     ensures { out (told result count.new) items.new
-        ≡ all_edge_weights (entering weights heads registers links ends n m) items.old }
+        ≡ all_edge_weights (entering weights.now heads.now registers.now links.now ends.now n m) items.old }
 {
     let answer = all_edge_weights(weights, heads, registers, links, ends, n, m, items);
     tell_items(answer, count)
@@ -279,8 +281,8 @@ pub extern "C" fn net_clear_edges(
     n: u32,
     m: &mut u32,
 ) -> u32
-    ensures { out (told result tt) (leaving weights heads registers links ends n m.new)
-        ≡ clear_edges (entering weights heads registers links ends n m.old) }
+    ensures { out (told result tt) (leaving weights.now heads.new registers.new links.new ends.new n m.new)
+        ≡ clear_edges (entering weights.now heads.old registers.old links.old ends.old n m.old) }
 {
     let answer = clear_edges(weights, heads, registers, links, ends, n, m);
     tell_change(answer)
@@ -297,8 +299,8 @@ pub extern "C" fn net_clear(
     n: &mut u32,
     m: &mut u32,
 ) -> u32
-    ensures { out (told result tt) (leaving weights heads registers links ends n.new m.new)
-        ≡ clear (entering weights heads registers links ends n.old m.old) }
+    ensures { out (told result tt) (leaving weights.new heads.new registers.new links.new ends.new n.new m.new)
+        ≡ clear (entering weights.old heads.old registers.old links.old ends.old n.old m.old) }
 {
     let answer = clear(weights, heads, registers, links, ends, n, m);
     tell_change(answer)

@@ -1,4 +1,6 @@
 // The edge between two nodes: found, contained, updated.
+#![tactic(auto)]
+
 ghost use Rattle.std.specs.Prelude.{◌≡◌};
 ghost use Rattle.tables.specs.Net.{entering, leaving};
 ghost use Rattle.tables.specs.Answers.{out, told_edge};
@@ -12,14 +14,14 @@ use tables::parts::fits;
 pub mod parts;
 
 // What a search of both lists of a node comes to: a row and the direction of the list it was found in, or none.
-#[derive(Drop)]
+#[derive(Clone, Copy)]
 pub enum Sought {
     Row(EdgeIndex, usize),
     Missing,
     Endless,
 }
 
-#[derive(Drop)]
+#[derive(Clone, Copy)]
 pub enum Contains {
     Yes,
     No,
@@ -38,7 +40,7 @@ pub fn find_edge(
     a: NodeIndex,
     b: NodeIndex,
 ) -> EdgeAnswer
-    ensures { toldEdge result ≡ find_edge (entering weights heads registers links ends n m) a.0 b.0 }
+    ensures { told_edge result ≡ find_edge (entering weights.now heads.now registers.now links.now ends.now n m) a.0 b.0 }
 {
     if !fits(weights, heads, registers, links, ends, n, m) {
         return EdgeAnswer::Refused(Refusal::Tables);
@@ -66,7 +68,7 @@ pub fn contains_edge(
     a: NodeIndex,
     b: NodeIndex,
 ) -> Contains
-    ensures { told_contains result ≡ contains_edge (entering weights heads registers links ends n m) a.0 b.0 }
+    ensures { told_contains result ≡ contains_edge (entering weights.now heads.now registers.now links.now ends.now n m) a.0 b.0 }
 {
     if !fits(weights, heads, registers, links, ends, n, m) {
         return Contains::Refused(Refusal::Tables);
@@ -95,8 +97,8 @@ pub fn update_edge(
     b: NodeIndex,
     w: u32,
 ) -> EdgeAnswer
-    ensures { out (toldEdge result) (leaving weights heads registers links ends n m.new)
-        ≡ update_edge (entering weights heads registers links ends n m.old) a.0 b.0 w }
+    ensures { out (told_edge result) (leaving weights.now heads.new registers.new links.new ends.new n m.new)
+        ≡ update_edge (entering weights.now heads.old registers.old links.old ends.old n m.old) a.0 b.0 w }
 {
     if !fits(weights, heads, registers, links, ends, n, *m) {
         return EdgeAnswer::Refused(Refusal::Tables);

@@ -1,4 +1,6 @@
 // The network as bytes, and back.
+#![tactic(auto)]
+
 ghost use Rattle.std.specs.Prelude.{◌≡◌};
 ghost use Rattle.tables.specs.Net.{entering, leaving};
 ghost use Rattle.tables.specs.Answers.{out, told_items, told_change};
@@ -23,7 +25,7 @@ pub fn image_write(
     m: u32,
     bytes: &mut [u8],
 ) -> Items
-    ensures { out (toldItems result) bytes.new ≡ image_write (entering weights heads registers links ends n m) bytes.old }
+    ensures { out (told_items result) bytes.new ≡ image_write (entering weights.now heads.now registers.now links.now ends.now n m) bytes.old }
 {
     if !fits(weights, heads, registers, links, ends, n, m) {
         return Items::Refused(Refusal::Tables);
@@ -50,8 +52,8 @@ pub fn image_read(
     m: &mut u32,
     bytes: &[u8],
 ) -> Changed
-    ensures { out (toldChange result) (leaving weights heads registers links ends n.new m.new)
-        ≡ image_read (entering weights heads registers links ends n.old m.old) bytes.now }
+    ensures { out (told_change result) (leaving weights.new heads.new registers.new links.new ends.new n.new m.new)
+        ≡ image_read (entering weights.old heads.old registers.old links.old ends.old n.old m.old) bytes.now }
 {
     if !fits(weights, heads, registers, links, ends, *n, *m) {
         return Changed::Refused(Refusal::Tables);

@@ -40,10 +40,10 @@ pub record ImageHeld (weights heads registers links ends bytes n m : ℕ) : Type
 
 -- what the part that stores an image's node rows leaves in the columns, and that for its edge rows
 pub record StoresNodes (weights : Lent ℤ) (heads : Lent ℕ) (bytes : List ℕ) (n : ℕ) : Type 0 where
-  pub weights_are : weights.exit.now ≡ each (λ l a. set l a (node_in bytes a).weight) n weights.entry.now
-  pub heads_are : heads.exit.now ≡ each (λ l a. heads_with l a (node_in bytes a)) n heads.entry.now
+  pub weights_are : weights.new ≡ each (λ l a. set l a (node_in bytes a).weight) n weights.old
+  pub heads_are : heads.new ≡ each (λ l a. heads_with l a (node_in bytes a)) n heads.old
 
 pub record StoresEdges (registers links ends : Lent ℕ) (bytes : List ℕ) (n m : ℕ) : Type 0 where
-  pub registers_are : registers.exit.now ≡ each (λ l e. set l e (edge_in bytes n e).weight) m registers.entry.now
-  pub links_are : links.exit.now ≡ each (λ l e. links_with l e (edge_in bytes n e)) m links.entry.now
-  pub ends_are : ends.exit.now ≡ each (λ l e. ends_with l e (edge_in bytes n e)) m ends.entry.now
+  pub registers_are : registers.new ≡ each (λ l e. set l e (edge_in bytes n e).weight) m registers.old
+  pub links_are : links.new ≡ each (λ l e. links_with l e (edge_in bytes n e)) m links.old
+  pub ends_are : ends.new ≡ each (λ l e. ends_with l e (edge_in bytes n e)) m ends.old

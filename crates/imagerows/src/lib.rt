@@ -1,3 +1,5 @@
 // The rows of an image: put into bytes from the columns that hold them, and stored in columns from the bytes. The module `parts`
 // has both ways.
+#![tactic(auto)]
+
 pub mod parts;

@@ -1,6 +1,6 @@
 // Rows into bytes, and bytes into rows.
 ghost use Rattle.std.specs.Prelude.{◌≡◌, length};
-ghost use Rattle.tables.specs.Net.{entering, leaving};
+ghost use Rattle.tables.specs.Net.{entering, leaving, held};
 ghost use Rattle.tables.specs.Parts.{NodeRow, EdgeRow};
 ghost use Rattle.layout.specs.Numbers.{placed};
 ghost use Rattle.layout.specs.Layout.{head_bytes, node_bytes, edge_bytes};
@@ -87,7 +87,7 @@ pub fn write(
     bytes: &mut [u8],
 )
     requires { ImageHeld (length weights.now) (length heads.now) (length registers.now) (length links.now) (length ends.now) (length bytes.old) n m }
-    ensures { bytes.new ≡ placed 0 (image_of (entering weights heads registers links ends n m)) bytes.old }
+    ensures { bytes.new ≡ placed 0 (image_of (entering weights.now heads.now registers.now links.now ends.now n m)) bytes.old }
 {
     put_head(bytes, n, m);
     write_nodes(weights, heads, n, bytes);
@@ -96,7 +96,7 @@ pub fn write(
 
 fn store_nodes(weights: &mut [i32], heads: &mut [u32], n: u32, bytes: &[u8])
     requires { NodesHeld (length weights.old) (length heads.old) (length bytes.now) n }
-    ensures { StoresNodes weights heads bytes.now n }
+    ensures { StoresNodes (held weights.old weights.new) (held heads.old heads.new) bytes.now n }
 {
     let rows = n as usize;
     let mut a = 0;
@@ -120,7 +120,7 @@ fn store_edges(
     bytes: &[u8],
 )
     requires { EdgesHeld (length registers.old) (length links.old) (length ends.old) (length bytes.now) n m }
-    ensures { StoresEdges registers links ends bytes.now n m }
+    ensures { StoresEdges (held registers.old registers.new) (held links.old links.new) (held ends.old ends.new) bytes.now n m }
 {
     let first = HEAD_BYTES + NODE_BYTES * (n as usize);
     let rows = m as usize;
@@ -149,7 +149,7 @@ pub fn load(
     bytes: &[u8],
 )
     requires { ImageHeld (length weights.old) (length heads.old) (length registers.old) (length links.old) (length ends.old) (length bytes.now) n m }
-    ensures { leaving weights heads registers links ends n m ≡ loaded (entering weights heads registers links ends n m) bytes.now n m }
+    ensures { leaving weights.new heads.new registers.new links.new ends.new n m ≡ loaded (entering weights.old heads.old registers.old links.old ends.old n m) bytes.now n m }
 {
     let nodes = weights.len();
     let edges = registers.len();

@@ -1,14 +1,16 @@
 // Numbers of nodes and edges, the two directions, and the reasons for a refusal.
+#![tactic(auto)]
+
 ghost use Rattle.std.specs.Prelude.{◌≡◌};
 ghost use Rattle.index.specs.Index.{is_end, number_of, direction_of};
 ghost use Rattle.index.specs.Refusals.{refusal_no};
 
 // The number of a node row. A node number is never taken for an edge number.
-#[derive(Drop)]
+#[derive(Clone, Copy)]
 pub struct NodeIndex(pub u32);
 
 // The number of an edge row.
-#[derive(Drop)]
+#[derive(Clone, Copy)]
 pub struct EdgeIndex(pub u32);
 
 impl NodeIndex {
@@ -46,7 +48,7 @@ impl EdgeIndex {
 }
 
 // The two lists that every node has: its edges from it, and its edges to it.
-#[derive(Drop)]
+#[derive(Clone, Copy)]
 pub enum EdgeDirection {
     Outgoing,
     Incoming,
@@ -78,7 +80,7 @@ impl EdgeDirection {
 }
 
 // Why a call changes nothing. `number` has the answer number of each; those from `NotBare` on no call gives yet.
-#[derive(Drop)]
+#[derive(Clone, Copy)]
 pub enum Refusal {
     Tables,
     Full,

@@ -1,5 +1,7 @@
 // What stands where in an image: mark, version and counts, then 12 bytes a node and 20 an edge. All numbers are
 // little-endian, signed ones two's complement. A number or a row is put in or read at its place by the module `parts`.
+#![tactic(auto)]
+
 ghost use Rattle.std.specs.Prelude.{◌≡◌};
 ghost use Rattle.layout.specs.Numbers.{bits, signed};
 ghost use Rattle.layout.specs.Layout.{image_length};

@@ -12,7 +12,7 @@ use tables::Items;
 use tables::parts::NODE_CELLS;
 
 // One direction from a link on, and which rows the walk takes.
-#[derive(Drop)]
+#[derive(Clone, Copy)]
 pub struct Leg {
     pub k: usize,
     pub pick: Pick,
@@ -32,7 +32,7 @@ pub fn along(heads: &[u32], a: NodeIndex, k: usize, pick: Pick) -> Leg
 }
 
 // Two legs counted: the rows of the first, its items, the rows of the second, the items of both.
-#[derive(Drop)]
+#[derive(Clone, Copy)]
 pub enum Settled {
     Rows(u32, u32, u32, u32),
     Broken,
@@ -55,7 +55,7 @@ pub fn settle(links: &[u32], ends: &[u32], m: u32, first: Leg, second: Leg) -> S
 }
 
 // Two legs before anything is written: the rows of the first, the rows of the second.
-#[derive(Drop)]
+#[derive(Clone, Copy)]
 pub enum Prepared {
     Rows(u32, u32),
     Broken,
@@ -134,7 +134,7 @@ pub fn walk(
     items: &mut [u32],
 ) -> Items
     requires { Legs (length registers.now) (length links.now) (length ends.now) m first second }
-    ensures { out (toldItems result) items.new
+    ensures { out (told_items result) items.new
         ≡ legs_told registers.now links.now ends.now m item first second items.old }
 {
     let both = prepare(links, ends, m, first, second, items.len());
@@ -173,7 +173,7 @@ pub fn walk_edges(
     targets: &mut [u32],
 ) -> Items
     requires { Legs (length registers.now) (length links.now) (length ends.now) m first second }
-    ensures { out (toldItems result) (tables3 numbers.new sources.new targets.new)
+    ensures { out (told_items result) (tables3 numbers.new sources.new targets.new)
         ≡ edges_told registers.now links.now ends.now m first second
         (tables3 numbers.old sources.old targets.old) }
 {

@@ -1,5 +1,7 @@
 // What `printer` prints of the lowest number of each length, of the highest, and of one whose digits stand in a row. The other programs print
 // none of more than eight digits by it.
+#![tactic(auto)]
+
 use io::write_all;
 use libc::STDOUT_FILENO;
 use printer::print_number;

@@ -1,4 +1,6 @@
 // The walker lent to the call and moved on by one neighbour: a thin shell over the step by value.
+#![tactic(auto)]
+
 ghost use Rattle.std.specs.Prelude.{◌≡◌};
 ghost use Rattle.tables.specs.Net.{entering};
 ghost use Rattle.tables.specs.Answers.{out, told_node};
@@ -9,7 +11,7 @@ use tables::NodeAnswer;
 use walker::{Step, Walker};
 
 // A step taken apart: the walker as it then stands, and the neighbour or why there is none.
-#[derive(Drop)]
+#[derive(Clone, Copy)]
 pub struct Moved {
     pub walker: Walker,
     pub answer: NodeAnswer,
@@ -26,7 +28,7 @@ fn advance(
     n: u32,
     m: u32,
 ) -> Moved
-    ensures { out (toldNode result.answer) result.walker ≡ step (entering weights heads registers links ends n m) w }
+    ensures { out (told_node result.answer) result.walker ≡ step (entering weights.now heads.now registers.now links.now ends.now n m) w }
 {
     match w.step(weights, heads, registers, links, ends, n, m) {
         Step::Neighbor(b, on) => {
@@ -54,7 +56,7 @@ pub fn next(
     n: u32,
     m: u32,
 ) -> NodeAnswer
-    ensures { out (toldNode result) w.new ≡ step (entering weights heads registers links ends n m) w.old }
+    ensures { out (told_node result) w.new ≡ step (entering weights.now heads.now registers.now links.now ends.now n m) w.old }
 {
     let moved = advance(*w, weights, heads, registers, links, ends, n, m);
     *w = moved.walker;

@@ -1,4 +1,6 @@
 // The letter of a script line says how many numbers stand behind it.
+#![tactic(auto)]
+
 ghost use Rattle.std.specs.Prelude.{◌≡◌};
 ghost use Rattle.letters.specs.Letters.{operands_of};
 

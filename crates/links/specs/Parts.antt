@@ -38,9 +38,9 @@ links_found k Search·.Lost v links = links
 
 -- e is sought in a's list of direction k, and the link to it leads to v
 pub record ChangesLink (heads links : Lent ℕ) (m k a e v : ℕ) (r : Search) : Type 0 where
-  pub answer_is : r ≡ seek (link_in heads.entry.now links.entry.now k) m e m (Head a) 0
-  pub heads_are : heads.exit.now ≡ heads_found k r v heads.entry.now
-  pub links_are : links.exit.now ≡ links_found k r v links.entry.now
+  pub answer_is : r ≡ seek (link_in heads.old links.old k) m e m (Head a) 0
+  pub heads_are : heads.new ≡ heads_found k r v heads.old
+  pub links_are : links.new ≡ links_found k r v links.old
 
 -- a column of heads, or of links, after the searches in both lists of an edge: its outgoing link leads to v, its incoming one to w
 abbrev pub heads_located : Located → (v w : ℕ) → List ℕ → List ℕ
@@ -53,9 +53,9 @@ links_located Located·.Lost v w links = links
 
 -- e is sought in both its lists, and the links to it lead to v and to w
 pub record ChangesLinks (heads links : Lent ℕ) (ends : List ℕ) (n m e v w : ℕ) (r : Located) : Type 0 where
-  pub answer_is : r ≡ located heads.entry.now links.entry.now ends n m e
-  pub heads_are : heads.exit.now ≡ heads_located r v w heads.entry.now
-  pub links_are : links.exit.now ≡ links_located r v w links.entry.now
+  pub answer_is : r ≡ located heads.old links.old ends n m e
+  pub heads_are : heads.new ≡ heads_located r v w heads.old
+  pub links_are : links.new ≡ links_located r v w links.old
 
 -- the columns have a spot of direction k
 unfoldable pub Place : (heads links k : ℕ) → Spot → Type 0
@@ -69,8 +69,8 @@ pub record Places (heads links : ℕ) (s t : Spot) : Type 0 where
 
 -- the links at both lead elsewhere
 pub record Leads (heads links : Lent ℕ) (s t : Spot) (v w : ℕ) : Type 0 where
-  pub heads_are : heads.exit.now ≡ heads_at 1 t w (heads_at 0 s v heads.entry.now)
-  pub links_are : links.exit.now ≡ links_at 1 t w (links_at 0 s v links.entry.now)
+  pub heads_are : heads.new ≡ heads_at 1 t w (heads_at 0 s v heads.old)
+  pub links_are : links.new ≡ links_at 1 t w (links_at 0 s v links.old)
 
 -- the columns have the rows e and l
 pub record Rows (registers links ends e l : ℕ) : Type 0 where
@@ -79,6 +79,6 @@ pub record Rows (registers links ends e l : ℕ) : Type 0 where
 
 -- row l is copied over row e and vacant
 pub record MovesLast (registers links ends : Lent ℕ) (e l : ℕ) : Type 0 where
-  pub registers_are : registers.exit.now ≡ set (set registers.entry.now e (get_or registers.entry.now l 0)) l 0
-  pub links_are : links.exit.now ≡ links_with (links_with links.entry.now e (edge_row (net [] [] [] links.entry.now [] 0 0) l)) l vacant_edge
-  pub ends_are : ends.exit.now ≡ ends_with (ends_with ends.entry.now e (edge_row (net [] [] [] [] ends.entry.now 0 0) l)) l vacant_edge
+  pub registers_are : registers.new ≡ set (set registers.old e (get_or registers.old l 0)) l 0
+  pub links_are : links.new ≡ links_with (links_with links.old e (edge_row (net [] [] [] links.old [] 0 0) l)) l vacant_edge
+  pub ends_are : ends.new ≡ ends_with (ends_with ends.old e (edge_row (net [] [] [] [] ends.old 0 0) l)) l vacant_edge

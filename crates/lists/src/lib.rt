@@ -1,17 +1,19 @@
 // The lists of a network: where a link stands, which rows a walk takes, and what it gives for each.
+#![tactic(auto)]
+
 use index::{EdgeIndex, NodeIndex};
 
 pub mod parts;
 
 // Where a link stands: at the head of a node's list, or after an edge in it.
-#[derive(Drop)]
+#[derive(Clone, Copy)]
 pub enum Spot {
     Head(u32),
     After(u32),
 }
 
 // Which rows of a list a walk takes, by their far end.
-#[derive(Drop)]
+#[derive(Clone, Copy)]
 pub enum Pick {
     Every,
     To(NodeIndex),
@@ -21,7 +23,7 @@ pub enum Pick {
 }
 
 // What a walk gives for a row: its number, the end in whose list it stands, the other end, or its weight.
-#[derive(Drop)]
+#[derive(Clone, Copy)]
 pub enum Item {
     Number,
     Near,
@@ -30,7 +32,7 @@ pub enum Item {
 }
 
 // The first row that a walk takes; else the link where its list ends, or that it does not end within m rows.
-#[derive(Drop)]
+#[derive(Clone, Copy)]
 pub enum Found {
     At(EdgeIndex),
     End(EdgeIndex),
@@ -38,7 +40,7 @@ pub enum Found {
 }
 
 // How many rows each of two lists has, where both end within m of them.
-#[derive(Drop)]
+#[derive(Clone, Copy)]
 pub enum Extents {
     Rows(u32, u32),
     Broken,

@@ -24,7 +24,7 @@ pub fn is_sound(
     n: u32,
     m: u32,
 ) -> bool
-    ensures { result ≡ is_sound (entering weights heads registers links ends n m) }
+    ensures { result ≡ is_sound (entering weights.now heads.now registers.now links.now ends.now n m) }
 {
     match check(weights, heads, registers, links, ends, n, m) {
         Checked::Accepted(_) => true,
@@ -42,7 +42,7 @@ pub fn empty(
     ends: &mut [u32],
 )
     requires { RowsAgree (length weights.old) (length heads.old) (length registers.old) (length links.old) (length ends.old) }
-    ensures { leaving weights heads registers links ends 0 0 ≡ vacated (entering weights heads registers links ends 0 0) }
+    ensures { leaving weights.new heads.new registers.new links.new ends.new 0 0 ≡ vacated (entering weights.old heads.old registers.old links.old ends.old 0 0) }
 {
     let nodes = weights.len();
     let edges = registers.len();
@@ -63,8 +63,8 @@ fn settle(
     edges: u32,
 ) -> Changed
     requires { RowsAgree (length weights.old) (length heads.old) (length registers.old) (length links.old) (length ends.old) }
-    ensures { out (toldChange result) (leaving weights heads registers links ends n.new m.new)
-        ≡ settled (entering weights heads registers links ends nodes edges) }
+    ensures { out (told_change result) (leaving weights.new heads.new registers.new links.new ends.new n.new m.new)
+        ≡ settled (entering weights.old heads.old registers.old links.old ends.old nodes edges) }
 {
     if !is_sound(weights, heads, registers, links, ends, nodes, edges) {
         empty(weights, heads, registers, links, ends);
@@ -89,8 +89,8 @@ pub fn read_one(
     bytes: &[u8],
 ) -> Changed
     requires { HeadHeld (length weights.old) (length heads.old) (length registers.old) (length links.old) (length ends.old) (length bytes.now) }
-    ensures { out (toldChange result) (leaving weights heads registers links ends n.new m.new)
-        ≡ read_one (entering weights heads registers links ends n.old m.old) bytes.now }
+    ensures { out (told_change result) (leaving weights.new heads.new registers.new links.new ends.new n.new m.new)
+        ≡ read_one (entering weights.old heads.old registers.old links.old ends.old n.old m.old) bytes.now }
 {
     let nodes = word(bytes, NODES_AT);
     let edges = word(bytes, EDGES_AT);

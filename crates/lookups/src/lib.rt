@@ -1,6 +1,8 @@
 // One row looked up, or its weight set.
 // Every call takes the network's five columns and two counts in this order, then its own operands. It answers
 // every input, and is refused 1 before all else where the columns do not fit (`tables::parts::fits`).
+#![tactic(auto)]
+
 ghost use Rattle.std.specs.Prelude.{◌≡◌};
 ghost use Rattle.tables.specs.Net.{entering, leaving};
 ghost use Rattle.tables.specs.Answers.{out, told_edge, told_node_weight, told_edge_weight, told_ends, told_change};
@@ -20,7 +22,7 @@ pub fn node_weight(
     m: u32,
     a: NodeIndex,
 ) -> NodeWeight
-    ensures { toldNodeWeight result ≡ node_weight (entering weights heads registers links ends n m) a.0 }
+    ensures { told_node_weight result ≡ node_weight (entering weights.now heads.now registers.now links.now ends.now n m) a.0 }
 {
     if !fits(weights, heads, registers, links, ends, n, m) {
         return NodeWeight::Refused(Refusal::Tables);
@@ -41,7 +43,7 @@ pub fn edge_weight(
     m: u32,
     e: EdgeIndex,
 ) -> EdgeWeight
-    ensures { toldEdgeWeight result ≡ edge_weight (entering weights heads registers links ends n m) e.0 }
+    ensures { told_edge_weight result ≡ edge_weight (entering weights.now heads.now registers.now links.now ends.now n m) e.0 }
 {
     if !fits(weights, heads, registers, links, ends, n, m) {
         return EdgeWeight::Refused(Refusal::Tables);
@@ -62,7 +64,7 @@ pub fn edge_endpoints(
     m: u32,
     e: EdgeIndex,
 ) -> Endpoints
-    ensures { toldEnds result ≡ edge_endpoints (entering weights heads registers links ends n m) e.0 }
+    ensures { told_ends result ≡ edge_endpoints (entering weights.now heads.now registers.now links.now ends.now n m) e.0 }
 {
     if !fits(weights, heads, registers, links, ends, n, m) {
         return Endpoints::Refused(Refusal::Tables);
@@ -76,7 +78,7 @@ pub fn edge_endpoints(
 
 // A link as it stands; `END` alone is nothing.
 fn link_told(e: EdgeIndex) -> EdgeAnswer
-    ensures { toldEdge result ≡ link_told e.0 }
+    ensures { told_edge result ≡ link_told e.0 }
 {
     if e.is_end() {
         return EdgeAnswer::Refused(Refusal::Nothing);
@@ -95,7 +97,7 @@ pub fn first_edge(
     a: NodeIndex,
     dir: EdgeDirection,
 ) -> EdgeAnswer
-    ensures { toldEdge result ≡ first_edge (entering weights heads registers links ends n m) a.0 dir }
+    ensures { told_edge result ≡ first_edge (entering weights.now heads.now registers.now links.now ends.now n m) a.0 dir }
 {
     if !fits(weights, heads, registers, links, ends, n, m) {
         return EdgeAnswer::Refused(Refusal::Tables);
@@ -117,7 +119,7 @@ pub fn next_edge(
     e: EdgeIndex,
     dir: EdgeDirection,
 ) -> EdgeAnswer
-    ensures { toldEdge result ≡ next_edge (entering weights heads registers links ends n m) e.0 dir }
+    ensures { told_edge result ≡ next_edge (entering weights.now heads.now registers.now links.now ends.now n m) e.0 dir }
 {
     if !fits(weights, heads, registers, links, ends, n, m) {
         return EdgeAnswer::Refused(Refusal::Tables);
@@ -139,8 +141,8 @@ pub fn set_node_weight(
     a: NodeIndex,
     w: i32,
 ) -> Changed
-    ensures { out (toldChange result) (leaving weights heads registers links ends n m)
-        ≡ set_node_weight (entering weights heads registers links ends n m) a.0 w }
+    ensures { out (told_change result) (leaving weights.new heads.now registers.now links.now ends.now n m)
+        ≡ set_node_weight (entering weights.old heads.now registers.now links.now ends.now n m) a.0 w }
 {
     if !fits(weights, heads, registers, links, ends, n, m) {
         return Changed::Refused(Refusal::Tables);
@@ -163,8 +165,8 @@ pub fn set_edge_weight(
     e: EdgeIndex,
     w: u32,
 ) -> Changed
-    ensures { out (toldChange result) (leaving weights heads registers links ends n m)
-        ≡ set_edge_weight (entering weights heads registers links ends n m) e.0 w }
+    ensures { out (told_change result) (leaving weights.now heads.now registers.new links.now ends.now n m)
+        ≡ set_edge_weight (entering weights.now heads.now registers.old links.now ends.now n m) e.0 w }
 {
     if !fits(weights, heads, registers, links, ends, n, m) {
         return Changed::Refused(Refusal::Tables);

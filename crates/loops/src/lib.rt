@@ -1,5 +1,7 @@
 // The bench's loops: one call from C for many operations. Each makes every call of its table, refused or not, and adds up what
 // the calls tell. They are no calls of the library: they measure it.
+#![tactic(auto)]
+
 ghost use Rattle.std.specs.Prelude.{◌≡◌};
 ghost use Rattle.tables.specs.Net.{entering, leaving};
 ghost use Rattle.loops.specs.Loops.{sums, add_nodes, add_edges, find_edges, neighbors_of_all, remove_edges};
@@ -26,8 +28,8 @@ pub extern "C" fn loop_add_nodes(
     m: u32,
     totals: &[i32],
 ) -> u64
-    ensures { sums result (leaving weights heads registers links ends n.new m)
-        ≡ add_nodes (entering weights heads registers links ends n.old m) totals.now }
+    ensures { sums result (leaving weights.new heads.new registers.now links.now ends.now n.new m)
+        ≡ add_nodes (entering weights.old heads.old registers.now links.now ends.now n.old m) totals.now }
 {
     let mut sum: u64 = 0;
     let mut i: usize = 0;
@@ -52,8 +54,8 @@ pub extern "C" fn loop_add_edges(
     m: &mut u32,
     edges: &[u32],
 ) -> u64
-    ensures { sums result (leaving weights heads registers links ends n m.new)
-        ≡ add_edges (entering weights heads registers links ends n m.old) edges.now }
+    ensures { sums result (leaving weights.now heads.new registers.new links.new ends.new n m.new)
+        ≡ add_edges (entering weights.now heads.old registers.old links.old ends.old n m.old) edges.now }
 {
     let mut sum: u64 = 0;
     let mut i: usize = 0;
@@ -81,7 +83,7 @@ pub extern "C" fn loop_find_edges(
     m: u32,
     pairs: &[u32],
 ) -> u64
-    ensures { result ≡ find_edges (entering weights heads registers links ends n m) pairs.now }
+    ensures { result ≡ find_edges (entering weights.now heads.now registers.now links.now ends.now n m) pairs.now }
 {
     let mut sum: u64 = 0;
     let mut i: usize = 0;
@@ -108,7 +110,7 @@ pub extern "C" fn loop_neighbors(
     m: u32,
     items: &mut [u32],
 ) -> u64
-    ensures { sums result items.new ≡ neighbors_of_all (entering weights heads registers links ends n m) items.old }
+    ensures { sums result items.new ≡ neighbors_of_all (entering weights.now heads.now registers.now links.now ends.now n m) items.old }
 {
     let mut sum: u64 = 0;
     let mut a: u32 = 0;
@@ -133,8 +135,8 @@ pub extern "C" fn loop_remove_edges(
     m: &mut u32,
     numbers: &[u32],
 ) -> u64
-    ensures { sums result (leaving weights heads registers links ends n m.new)
-        ≡ remove_edges (entering weights heads registers links ends n m.old) numbers.now }
+    ensures { sums result (leaving weights.now heads.new registers.new links.new ends.new n m.new)
+        ≡ remove_edges (entering weights.now heads.old registers.old links.old ends.old n m.old) numbers.now }
 {
     let mut sum: u64 = 0;
     let mut i: usize = 0;

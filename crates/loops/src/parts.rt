@@ -9,7 +9,7 @@ use std::num::wrapping_add_u64;
 use tables::{EdgeAnswer, Items, NodeAnswer};
 
 pub fn node_adds(answer: NodeAnswer) -> u64
-    ensures { result ≡ adds (toldNode answer) }
+    ensures { result ≡ adds (told_node answer) }
 {
     match answer {
         NodeAnswer::Node(a) => a.0 as u64,
@@ -18,7 +18,7 @@ pub fn node_adds(answer: NodeAnswer) -> u64
 }
 
 pub fn edge_adds(answer: EdgeAnswer) -> u64
-    ensures { result ≡ adds (toldEdge answer) }
+    ensures { result ≡ adds (told_edge answer) }
 {
     match answer {
         EdgeAnswer::Edge(e) => e.0 as u64,
@@ -38,8 +38,8 @@ pub fn removal_adds(answer: EdgeRemoved) -> u64
 
 // Of a walk the items count that it gave.
 pub fn items_add(answer: Items, items: &[u32]) -> u64
-    requires { (toldItems answer).values ≤ length items.now }
-    ensures { result ≡ in64 (adds (totalled (toldItems answer) items.now)) }
+    requires { (told_items answer).values ≤ length items.now }
+    ensures { result ≡ in64 (adds (totalled (told_items answer) items.now)) }
 {
     match answer {
         Items::Count(c) => total(&items[..c as usize]),

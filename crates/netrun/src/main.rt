@@ -1,5 +1,7 @@
 // Answers the script on standard input: its answer lines, then `! 7` where one of them did not fit; alone `! 1` where the
 // script is too long. Which bytes these are is proved (`telling`); that they are read and written is C's.
+#![tactic(auto)]
+
 ghost use Rattle.io.specs.Counts.{IsPrefixLen};
 
 use io::write_all;
@@ -11,7 +13,7 @@ use telling::parts::{TOLD_BYTES, tell_run};
 const ROOM: usize = MOST_BYTES + 1;
 
 // How many bytes were read, and whether all could be.
-#[derive(Drop)]
+#[derive(Clone, Copy)]
 struct Input {
     bytes: usize,
     whole: bool,

@@ -17,7 +17,7 @@ use text::parts::{read_operands, read_weight_operand};
 use text::{Operands, Weight};
 
 // What stands behind a letter.
-#[derive(Drop)]
+#[derive(Clone, Copy)]
 enum Behind {
     Given(Numbers),
     Bad,
@@ -62,8 +62,8 @@ pub fn answer_line(
     targets: &mut [u32],
 ) -> Reply
     requires { Within script.now at end }
-    ensures { replied result (left weights heads registers links ends n m items sources targets)
-        ≡ line_answer (slice at end script.now) (found weights heads registers links ends n m items sources targets) }
+    ensures { replied result (left weights.new heads.new registers.new links.new ends.new n.new m.new items.new sources.new targets.new)
+        ≡ line_answer (slice at end script.now) (found weights.old heads.old registers.old links.old ends.old n.old m.old items.old sources.old targets.old) }
 {
     if at == end {
         return refused(b'?', Refusal::NotCommand);

@@ -1,4 +1,6 @@
 // Numbers as the programs print them: a digit at a time, straight to standard output, the first one first.
+#![tactic(auto)]
+
 ghost use Rattle.std.specs.Prelude.{◌<◌};
 
 use io::write_all;

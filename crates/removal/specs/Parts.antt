@@ -1,8 +1,6 @@
 -- What the parts ask of their callers, and what they leave.
 use Rattle.std.specs.Prelude.{ℕ, ◌+◌, ◌-◌, ◌≤◌, ◌<◌, ◌≡◌, List, ℤ}
-use Rattle.std.specs.Borrow.{Bor}
-use denote.Triple.Both.{Both}
-use Rattle.tables.specs.Net.{Lent, net}
+use Rattle.tables.specs.Net.{Held, Lent, net}
 use Rattle.tables.specs.Answers.{out}
 use Rattle.lists.specs.declared.Spot.{Spot}
 use Rattle.links.specs.Links.{led}
@@ -24,17 +22,17 @@ pub record Gap (heads registers links ends n m e : ℕ) (s t : Spot) (rows : ℕ
 
 -- a removal has no part in the node weights: whatever they are, it leaves what its definition says
 abbrev pub Count : Type 0
-Count = Both (Bor ℕ) (Bor ℕ)
+Count = Held ℕ
 
 abbrev pub TakesOut : (heads registers links ends : Lent ℕ) → ℕ → Count → ℕ → EdgeRemoved → Type 0
 TakesOut heads registers links ends n m e r =
     (weights : List ℤ)
-    → out (told_edge_removed r) (net weights heads.exit.now registers.exit.now links.exit.now ends.exit.now n m.exit.now)
-    ≡ taken_out (net weights heads.entry.now registers.entry.now links.entry.now ends.entry.now n m.entry.now) e
+    → out (told_edge_removed r) (net weights heads.new registers.new links.new ends.new n m.new)
+    ≡ taken_out (net weights heads.old registers.old links.old ends.old n m.old) e
 
 abbrev pub FillsGap : (heads registers links ends : Lent ℕ) → ℕ → Count → ℕ → Spot → Spot → ℕ → EdgeRemoved → Type 0
 FillsGap heads registers links ends n m e s t rows r =
     (weights : List ℤ)
-    → (let h = net weights heads.entry.now registers.entry.now links.entry.now ends.entry.now n m.entry.now in
-    out (told_edge_removed r) (net weights heads.exit.now registers.exit.now links.exit.now ends.exit.now n m.exit.now)
-    ≡ last_moved (led h s t e e) h e (m.entry.now - 1) rows)
+    → (let h = net weights heads.old registers.old links.old ends.old n m.old in
+    out (told_edge_removed r) (net weights heads.new registers.new links.new ends.new n m.new)
+    ≡ last_moved (led h s t e e) h e (m.old - 1) rows)

@@ -1,4 +1,6 @@
 // Taking an edge out of a network.
+#![tactic(auto)]
+
 ghost use Rattle.std.specs.Prelude.{◌≡◌};
 ghost use Rattle.tables.specs.Net.{entering, leaving};
 ghost use Rattle.tables.specs.Answers.{out};
@@ -11,7 +13,7 @@ use tables::parts::fits;
 pub mod parts;
 
 // The edge's weight, the old number of the row that moved into its place (`END` where none did), the rows read.
-#[derive(Drop)]
+#[derive(Clone, Copy)]
 pub enum EdgeRemoved {
     Edge(u32, EdgeIndex, u32),
     Refused(Refusal),
@@ -28,7 +30,7 @@ pub fn remove_edge(
     m: &mut u32,
     e: EdgeIndex,
 ) -> EdgeRemoved
-    ensures { out (told_edge_removed result) (leaving weights heads registers links ends n m.new) ≡ remove_edge (entering weights heads registers links ends n m.old) e.0 }
+    ensures { out (told_edge_removed result) (leaving weights.now heads.new registers.new links.new ends.new n m.new) ≡ remove_edge (entering weights.now heads.old registers.old links.old ends.old n m.old) e.0 }
 {
     let edges = *m;
     if !fits(weights, heads, registers, links, ends, n, edges) {

@@ -4,6 +4,8 @@
 // A number of the list is five digits and the space or newline behind them. The list begins with how many scripts there are. Each has
 // three numbers before it, its place, its length and that of its buffer, and a newline behind it. Its answer begins with a line of its place, the
 // answer number, the bytes written, and how many bytes past these were touched; then these bytes follow.
+#![tactic(auto)]
+
 ghost use Rattle.std.specs.Prelude.{◌≤◌, ◌<◌, ◌≡◌, length, take};
 
 use io::{read_full, write_all};

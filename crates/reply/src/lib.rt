@@ -1,4 +1,6 @@
 // The answer line of a command, written whole or not at all.
+#![tactic(auto)]
+
 ghost use Rattle.std.specs.Prelude.{◌≡◌};
 ghost use Rattle.reply.specs.Replies.{bare_reply};
 
@@ -6,7 +8,7 @@ pub mod parts;
 
 // What a command answers: its letter, the answer number, up to three values, and how many items of the output table follow.
 // The second value is printed as `-` where there is none: no row moved.
-#[derive(Drop)]
+#[derive(Clone, Copy)]
 pub struct Reply {
     pub letter: u8,
     pub number: u32,
@@ -37,7 +39,7 @@ impl Reply {
 }
 
 // Where the answers end once a line is written, or that it did not fit.
-#[derive(Drop)]
+#[derive(Clone, Copy)]
 pub enum Written {
     Upto(usize),
     Full,

@@ -1,6 +1,8 @@
 // Rows added, listed, and cleared.
 // Every call takes the network's five columns and two counts in this order, then its own operands. It answers
 // every input, and is refused 1 before all else where the columns do not fit (`tables::parts::fits`).
+#![tactic(auto)]
+
 ghost use Rattle.std.specs.Prelude.{◌≡◌};
 ghost use Rattle.tables.specs.Net.{entering, leaving};
 ghost use Rattle.tables.specs.Answers.{out, told_node, told_edge, told_change, told_items};
@@ -20,8 +22,8 @@ pub fn add_node(
     m: u32,
     w: i32,
 ) -> NodeAnswer
-    ensures { out (toldNode result) (leaving weights heads registers links ends n.new m)
-        ≡ add_node (entering weights heads registers links ends n.old m) w }
+    ensures { out (told_node result) (leaving weights.new heads.new registers.now links.now ends.now n.new m)
+        ≡ add_node (entering weights.old heads.old registers.now links.now ends.now n.old m) w }
 {
     let a = *n;
     if !fits(weights, heads, registers, links, ends, a, m) {
@@ -47,8 +49,8 @@ pub fn add_edge(
     b: NodeIndex,
     w: u32,
 ) -> EdgeAnswer
-    ensures { out (toldEdge result) (leaving weights heads registers links ends n m.new)
-        ≡ add_edge (entering weights heads registers links ends n m.old) a.0 b.0 w }
+    ensures { out (told_edge result) (leaving weights.now heads.new registers.new links.new ends.new n m.new)
+        ≡ add_edge (entering weights.now heads.old registers.old links.old ends.old n m.old) a.0 b.0 w }
 {
     let e = *m;
     if !fits(weights, heads, registers, links, ends, n, e) {
@@ -79,7 +81,7 @@ pub fn all_edge_weights(
     m: u32,
     items: &mut [u32],
 ) -> Items
-    ensures { out (toldItems result) items.new ≡ all_edge_weights (entering weights heads registers links ends n m) items.old }
+    ensures { out (told_items result) items.new ≡ all_edge_weights (entering weights.now heads.now registers.now links.now ends.now n m) items.old }
 {
     if !fits(weights, heads, registers, links, ends, n, m) {
         return Items::Refused(Refusal::Tables);
@@ -102,8 +104,8 @@ pub fn clear_edges(
     n: u32,
     m: &mut u32,
 ) -> Changed
-    ensures { out (toldChange result) (leaving weights heads registers links ends n m.new)
-        ≡ clear_edges (entering weights heads registers links ends n m.old) }
+    ensures { out (told_change result) (leaving weights.now heads.new registers.new links.new ends.new n m.new)
+        ≡ clear_edges (entering weights.now heads.old registers.old links.old ends.old n m.old) }
 {
     if !fits(weights, heads, registers, links, ends, n, *m) {
         return Changed::Refused(Refusal::Tables);
@@ -124,8 +126,8 @@ pub fn clear(
     n: &mut u32,
     m: &mut u32,
 ) -> Changed
-    ensures { out (toldChange result) (leaving weights heads registers links ends n.new m.new)
-        ≡ clear (entering weights heads registers links ends n.old m.old) }
+    ensures { out (told_change result) (leaving weights.new heads.new registers.new links.new ends.new n.new m.new)
+        ≡ clear (entering weights.old heads.old registers.old links.old ends.old n.old m.old) }
 {
     if !fits(weights, heads, registers, links, ends, *n, *m) {
         return Changed::Refused(Refusal::Tables);

@@ -1,4 +1,6 @@
 // The run of a whole script: script bytes in, answer bytes out.
+#![tactic(auto)]
+
 ghost use Rattle.std.specs.Prelude.{◌≡◌, length};
 ghost use Rattle.script.specs.Script.{run, packed};
 

@@ -12,7 +12,7 @@ use reply::parts::answer;
 use text::parts::line_end;
 
 // How a run ended: its answer number, and the bytes written.
-#[derive(Drop)]
+#[derive(Clone, Copy)]
 pub struct Ended {
     pub number: u32,
     pub bytes: usize,
@@ -36,8 +36,8 @@ pub fn run_lines(
 ) -> Ended
     requires { Runnable script.now out.old limit items.old }
     ensures { Ends
-        (found weights heads registers links ends n m items sources targets)
-        (left weights heads registers links ends n m items sources targets)
+        (found weights.old heads.old registers.old links.old ends.old n.old m.old items.old sources.old targets.old)
+        (left weights.new heads.new registers.new links.new ends.new n.new m.new items.new sources.new targets.new)
         limit script.now out.old out.new result }
 {
     let mut at: usize = 0;

@@ -2,6 +2,8 @@
 // 0, 1, 2 or `END`. A line of these has n and m, how many networks there are, how many are accepted, the faults by direction
 // and node, others (none), and a hash of all answers in turn. An independent check, oracle/tests/small_tables.rs, works out
 // the same lines.
+#![tactic(auto)]
+
 ghost use Rattle.std.specs.Prelude.{◌<◌};
 
 use index::EdgeDirection;
@@ -17,14 +19,14 @@ const END: u32 = 4294967295;
 // The tables with n nodes and m edges that have 2n cells of heads and 4m of links and ends: 4 to the power of that.
 const NETWORKS: [u32; 9] = [1, 256, 65536, 16, 4096, 1048576, 256, 65536, 16777216];
 
-#[derive(Drop)]
+#[derive(Clone, Copy)]
 struct Tables {
     heads: [u32; 4],
     links: [u32; 4],
     ends: [u32; 4],
 }
 
-#[derive(Drop)]
+#[derive(Clone, Copy)]
 struct Tally {
     counts: [u32; 8],
     hash: u64,

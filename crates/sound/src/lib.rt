@@ -1,4 +1,6 @@
 // The check: whether a network is sound, or where its first fault is.
+#![tactic(auto)]
+
 ghost use Rattle.std.specs.Prelude.{◌≡◌};
 ghost use Rattle.tables.specs.Net.{entering};
 ghost use Rattle.sound.specs.Check.{checked};
@@ -10,14 +12,14 @@ use tables::parts::{INCOMING, OUTGOING, fits};
 pub mod parts;
 
 // The rows read of one direction's lists; or the first node with a fault, n where some edge is in no list.
-#[derive(Drop)]
+#[derive(Clone, Copy)]
 pub enum Walked {
     Read(u32),
     FaultAt(u32),
 }
 
 // The rows read of a sound network; or direction and node of the first fault, answer 6.
-#[derive(Drop)]
+#[derive(Clone, Copy)]
 pub enum Checked {
     Accepted(u32),
     Fault(EdgeDirection, NodeIndex),
@@ -34,7 +36,7 @@ pub fn check(
     n: u32,
     m: u32,
 ) -> Checked
-    ensures { result ≡ checked (entering weights heads registers links ends n m) }
+    ensures { result ≡ checked (entering weights.now heads.now registers.now links.now ends.now n m) }
 {
     if !fits(weights, heads, registers, links, ends, n, m) {
         return Checked::Refused(Refusal::Tables);

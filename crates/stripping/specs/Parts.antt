@@ -20,10 +20,10 @@ pub record Strippable (heads registers links ends : List ℕ) (n m a items : ℕ
 pub record Strips (heads registers links ends : Lent ℕ) (n : ℕ) (m : Count) (a : ℕ) (items : Lent ℕ) (r : Stripped) : Type 0 where
   pub given : List ℕ
   pub rest : (totals : List ℤ)
-      → strip (net totals heads.exit.now registers.exit.now links.exit.now ends.exit.now n m.exit.now) given r.rows
-      ≡ stripped (net totals heads.entry.now registers.entry.now links.entry.now ends.entry.now n m.entry.now) a
+      → strip (net totals heads.new registers.new links.new ends.new n m.new) given r.rows
+      ≡ stripped (net totals heads.old registers.old links.old ends.old n m.old) a
   pub count_is : r.count ≡ length given
-  pub items_are : items.exit.now ≡ onto given items.entry.now
+  pub items_are : items.new ≡ onto given items.old
   -- no edge is new, and the rows can be counted on
-  pub fewer : m.exit.now ≤ m.entry.now
+  pub fewer : m.new ≤ m.old
   pub few : r.rows ≤ 281474976710656

@@ -1,2 +1,4 @@
 // A node stripped of its edges.
+#![tactic(auto)]
+
 pub mod parts;

@@ -1,5 +1,6 @@
 // A node is stripped of its edges.
 ghost use Rattle.std.specs.Prelude.{length};
+ghost use Rattle.tables.specs.Net.{held};
 ghost use Rattle.stripping.specs.Parts.{Strippable, Strips};
 
 use index::{EdgeDirection, EdgeIndex, NodeIndex};
@@ -8,7 +9,7 @@ use removal::parts::take_out;
 use tables::parts::NODE_CELLS;
 
 // The rows read, and how many weights stand in the table.
-#[derive(Drop)]
+#[derive(Clone, Copy)]
 pub struct Stripped {
     pub rows: u64,
     pub count: u32,
@@ -26,7 +27,7 @@ pub fn strip(
     items: &mut [u32],
 ) -> Stripped
     requires { Strippable heads.old registers.old links.old ends.old n m.old a.0 (length items.old) }
-    ensures { Strips heads registers links ends n m a.0 items result }
+    ensures { Strips (held heads.old heads.new) (held registers.old registers.new) (held links.old links.new) (held ends.old ends.new) n (held m.old m.new) a.0 (held items.old items.new) result }
 {
     let mut rows: u64 = 0;
     let mut count: u32 = 0;

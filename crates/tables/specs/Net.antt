@@ -1,7 +1,5 @@
 -- The network as the caller lends it: five columns and two counts.
 use Rattle.std.specs.Prelude.{ℕ, ◌+◌, ◌*◌, Bool, ◌&&◌, List, leb, eqb, ℤ, length}
-use Rattle.std.specs.Borrow.{Bor}
-use denote.Triple.Both.{Both}
 
 pub record Net : Type 0 where
   -- per node: its total; its first outgoing and its first incoming edge
@@ -59,13 +57,21 @@ fit weights heads registers links ends n m =
 abbrev pub fits : Net → Bool
 fits g = fit (length g.weights) (length g.heads) (length g.registers) (length g.links) (length g.ends) g.n g.m
 
--- a column lent to a call, with what it holds at entry and at exit
+-- what is lent to a call, as the call finds it and as it leaves it
+pub record Held (A : Type 0) : Type 0 where
+  pub old : A
+  pub new : A
+
+abbrev pub held : {A : Type 0} → A → A → Held A
+held old new = record { old = old; new = new }
+
+-- a column lent to a call
 abbrev pub Lent : Type 0 → Type 0
-Lent A = Both (Bor (List A)) (Bor (List A))
+Lent A = Held (List A)
 
 -- the network as a call finds it, and as the call leaves it
-abbrev pub entering : Lent ℤ → Lent ℕ → Lent ℕ → Lent ℕ → Lent ℕ → ℕ → ℕ → Net
-entering weights heads registers links ends n m = net weights.entry.now heads.entry.now registers.entry.now links.entry.now ends.entry.now n m
+abbrev pub entering : List ℤ → List ℕ → List ℕ → List ℕ → List ℕ → ℕ → ℕ → Net
+entering weights heads registers links ends n m = net weights heads registers links ends n m
 
-abbrev pub leaving : Lent ℤ → Lent ℕ → Lent ℕ → Lent ℕ → Lent ℕ → ℕ → ℕ → Net
-leaving weights heads registers links ends n m = net weights.exit.now heads.exit.now registers.exit.now links.exit.now ends.exit.now n m
+abbrev pub leaving : List ℤ → List ℕ → List ℕ → List ℕ → List ℕ → ℕ → ℕ → Net
+leaving weights heads registers links ends n m = net weights heads registers links ends n m

@@ -1,6 +1,6 @@
 // What the calls are made of. Only parts may demand something of their caller.
 ghost use Rattle.std.specs.Prelude.{◌≡◌, length, replicate, pos};
-ghost use Rattle.tables.specs.Net.{fits, entering};
+ghost use Rattle.tables.specs.Net.{fits, entering, held};
 ghost use Rattle.tables.specs.Parts.{NodeRow, EdgeRow, WritesNode, WritesEdge, NodeSpan, EdgeSpan, VacatesNodes, VacatesEdges, Linkable, LinksEdge};
 
 use crate::row::{Edge, Node};
@@ -35,7 +35,7 @@ pub fn fits(
     n: u32,
     m: u32,
 ) -> bool
-    ensures { result ≡ fits (entering weights heads registers links ends n m) }
+    ensures { result ≡ fits (entering weights.now heads.now registers.now links.now ends.now n m) }
 {
     let nodes = weights.len();
     let edges = registers.len();
@@ -62,7 +62,7 @@ pub fn fits(
 
 pub fn write_node(weights: &mut [i32], heads: &mut [u32], a: usize, row: Node)
     requires { NodeRow (length weights.old) (length heads.old) a }
-    ensures { WritesNode weights heads a row }
+    ensures { WritesNode (held weights.old weights.new) (held heads.old heads.new) a row }
 {
     let w = row.weight;
     weights[a] = w;
@@ -72,7 +72,7 @@ pub fn write_node(weights: &mut [i32], heads: &mut [u32], a: usize, row: Node)
 
 pub fn write_edge(registers: &mut [u32], links: &mut [u32], ends: &mut [u32], e: usize, row: Edge)
     requires { EdgeRow (length registers.old) (length links.old) (length ends.old) e }
-    ensures { WritesEdge registers links ends e row }
+    ensures { WritesEdge (held registers.old registers.new) (held links.old links.new) (held ends.old ends.new) e row }
 {
     registers[e] = row.weight;
     links[EDGE_CELLS * e + OUTGOING] = row.outgoing.0;
@@ -93,7 +93,7 @@ pub fn link_edge(
     w: u32,
 )
     requires { Linkable (length heads.old) (length registers.old) (length links.old) (length ends.old) e a.0 b.0 }
-    ensures { LinksEdge heads registers links ends e a.0 b.0 w }
+    ensures { LinksEdge (held heads.old heads.new) (held registers.old registers.new) (held links.old links.new) (held ends.old ends.new) e a.0 b.0 w }
 {
     // Both heads are read before either is set, and the two cells differ: a self-loop needs no case.
     let outgoing = NODE_CELLS * (a.0 as usize) + OUTGOING;
@@ -147,7 +147,7 @@ pub fn copy(from: &[u32], cells: &mut [u32])
 // The node rows from `first` up to `last` become vacant.
 pub fn vacate_nodes(weights: &mut [i32], heads: &mut [u32], first: usize, last: usize)
     requires { NodeSpan (length weights.old) (length heads.old) first last }
-    ensures { VacatesNodes weights heads first last }
+    ensures { VacatesNodes (held weights.old weights.new) (held heads.old heads.new) first last }
 {
     fill_weights(&mut weights[first..last]);
     fill(
@@ -165,7 +165,7 @@ pub fn vacate_edges(
     last: usize,
 )
     requires { EdgeSpan (length registers.old) (length links.old) (length ends.old) first last }
-    ensures { VacatesEdges registers links ends first last }
+    ensures { VacatesEdges (held registers.old registers.new) (held links.old links.new) (held ends.old ends.new) first last }
 {
     fill(&mut registers[first..last], 0);
     fill(

@@ -5,7 +5,7 @@ ghost use Rattle.tables.specs.Rows.{bare, vacant_edge};
 use index::{EdgeIndex, NodeIndex};
 
 // A catchment: its total, its first outgoing and its first incoming edge.
-#[derive(Drop)]
+#[derive(Clone, Copy)]
 pub struct Node {
     pub weight: i32,
     pub outgoing: EdgeIndex,
@@ -13,7 +13,7 @@ pub struct Node {
 }
 
 // A waterway: its register number, the next edge of its source's outgoing and of its target's incoming list, its ends.
-#[derive(Drop)]
+#[derive(Clone, Copy)]
 pub struct Edge {
     pub weight: u32,
     pub outgoing: EdgeIndex,

@@ -8,7 +8,7 @@ ghost use Rattle.text.specs.Parts.{Within, EndsLine, read_digits, read_whole, re
 use crate::{Number, Operands, Weight};
 
 // 1 to 10 digits, which may not fit 32 bits, and where they end.
-#[derive(Drop)]
+#[derive(Clone, Copy)]
 enum Digits {
     Value(u64, usize),
     Bad,

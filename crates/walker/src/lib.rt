@@ -1,4 +1,6 @@
 // The walker of a node's neighbours, by value, and the sum around a node.
+#![tactic(auto)]
+
 ghost use Rattle.std.specs.Prelude.{◌≡◌};
 ghost use Rattle.tables.specs.Net.{entering};
 ghost use Rattle.tables.specs.Answers.{out};
@@ -14,34 +16,34 @@ use tables::parts::{EDGE_CELLS, INCOMING, NODE_CELLS, OUTGOING, SOURCE, TARGET, 
 pub mod parts;
 
 // Where a walk around a node stands: its next outgoing edge, and its next incoming one. It skips `start` in the incoming list.
-#[derive(Drop)]
+#[derive(Clone, Copy)]
 pub struct Walker {
     pub start: NodeIndex,
     pub outgoing: EdgeIndex,
     pub incoming: EdgeIndex,
 }
 
-#[derive(Drop)]
+#[derive(Clone, Copy)]
 pub enum Begun {
     Walker(Walker),
     Refused(Refusal),
 }
 
 // A neighbour, or why there is none; and the walker as it then stands.
-#[derive(Drop)]
+#[derive(Clone, Copy)]
 pub enum Step {
     Neighbor(NodeIndex, Walker),
     Stopped(Refusal, Walker),
 }
 
-#[derive(Drop)]
+#[derive(Clone, Copy)]
 pub enum Summed {
     Sum(i64),
     Refused(Refusal),
 }
 
 // What one list adds to a sum; or that it does not end, or has a neighbour that is missing.
-#[derive(Drop)]
+#[derive(Clone, Copy)]
 pub enum Tally {
     Total(i64),
     Broken,
@@ -59,7 +61,7 @@ impl Walker {
         m: u32,
         a: NodeIndex,
     ) -> Begun
-        ensures { told_begun result ≡ begin (entering weights heads registers links ends n m) a.0 }
+        ensures { told_begun result ≡ begin (entering weights.now heads.now registers.now links.now ends.now n m) a.0 }
     {
         if !fits(weights, heads, registers, links, ends, n, m) {
             return Begun::Refused(Refusal::Tables);
@@ -114,7 +116,7 @@ impl Walker {
         n: u32,
         m: u32,
     ) -> Step
-        ensures { out (told_step result) (moved result) ≡ step (entering weights heads registers links ends n m) self }
+        ensures { out (told_step result) (moved result) ≡ step (entering weights.now heads.now registers.now links.now ends.now n m) self }
     {
         if !fits(weights, heads, registers, links, ends, n, m) {
             return Step::Stopped(Refusal::Tables, self);
@@ -150,7 +152,7 @@ pub fn sum_around(
     m: u32,
     a: NodeIndex,
 ) -> Summed
-    ensures { told_summed result ≡ sum_around (entering weights heads registers links ends n m) a.0 }
+    ensures { told_summed result ≡ sum_around (entering weights.now heads.now registers.now links.now ends.now n m) a.0 }
 {
     if !fits(weights, heads, registers, links, ends, n, m) {
         return Summed::Refused(Refusal::Tables);

@@ -1,5 +1,7 @@
 // The walks along both lists of a node, into output tables that the caller lends.
 // A missing node has no items. Both lists are settled before anything is written: 6 comes before 7.
+#![tactic(auto)]
+
 ghost use Rattle.std.specs.Prelude.{◌≡◌};
 ghost use Rattle.tables.specs.Net.{entering};
 ghost use Rattle.tables.specs.Answers.{out, told_items};
@@ -24,7 +26,7 @@ pub fn neighbors(
     a: NodeIndex,
     items: &mut [u32],
 ) -> Items
-    ensures { out (toldItems result) items.new ≡ neighbors (entering weights heads registers links ends n m) a.0 items.old }
+    ensures { out (told_items result) items.new ≡ neighbors (entering weights.now heads.now registers.now links.now ends.now n m) a.0 items.old }
 {
     if !fits(weights, heads, registers, links, ends, n, m) {
         return Items::Refused(Refusal::Tables);
@@ -49,7 +51,7 @@ pub fn edge_weights(
     a: NodeIndex,
     items: &mut [u32],
 ) -> Items
-    ensures { out (toldItems result) items.new ≡ edge_weights (entering weights heads registers links ends n m) a.0 items.old }
+    ensures { out (told_items result) items.new ≡ edge_weights (entering weights.now heads.now registers.now links.now ends.now n m) a.0 items.old }
 {
     if !fits(weights, heads, registers, links, ends, n, m) {
         return Items::Refused(Refusal::Tables);
@@ -84,7 +86,7 @@ pub fn edges_between(
     b: NodeIndex,
     items: &mut [u32],
 ) -> Items
-    ensures { out (toldItems result) items.new ≡ edges_between (entering weights heads registers links ends n m) a.0 b.0 items.old }
+    ensures { out (told_items result) items.new ≡ edges_between (entering weights.now heads.now registers.now links.now ends.now n m) a.0 b.0 items.old }
 {
     if !fits(weights, heads, registers, links, ends, n, m) {
         return Items::Refused(Refusal::Tables);
@@ -118,7 +120,7 @@ pub fn edges_mut(
     a: NodeIndex,
     items: &mut [u32],
 ) -> Items
-    ensures { out (toldItems result) items.new ≡ edges_mut (entering weights heads registers links ends n m) a.0 items.old }
+    ensures { out (told_items result) items.new ≡ edges_mut (entering weights.now heads.now registers.now links.now ends.now n m) a.0 items.old }
 {
     if !fits(weights, heads, registers, links, ends, n, m) {
         return Items::Refused(Refusal::Tables);
@@ -152,7 +154,7 @@ pub fn edge_weights_mut(
     a: NodeIndex,
     items: &mut [u32],
 ) -> Items
-    ensures { out (toldItems result) items.new ≡ edges_mut (entering weights heads registers links ends n m) a.0 items.old }
+    ensures { out (told_items result) items.new ≡ edges_mut (entering weights.now heads.now registers.now links.now ends.now n m) a.0 items.old }
 {
     edges_mut(weights, heads, registers, links, ends, n, m, a, items)
 }
@@ -171,7 +173,7 @@ pub fn edges(
     sources: &mut [u32],
     targets: &mut [u32],
 ) -> Items
-    ensures { out (toldItems result) (tables3 numbers.new sources.new targets.new) ≡ edges (entering weights heads registers links ends n m) a.0 (tables3 numbers.old sources.old targets.old) }
+    ensures { out (told_items result) (tables3 numbers.new sources.new targets.new) ≡ edges (entering weights.now heads.now registers.now links.now ends.now n m) a.0 (tables3 numbers.old sources.old targets.old) }
 {
     if !fits(weights, heads, registers, links, ends, n, m) {
         return Items::Refused(Refusal::Tables);
