@@ -1,9 +1,9 @@
 -- What the test for answer 1 says, read off a call of it; what holds whether a test passes or not: `tested`.
 use Prim.Native.Nat.{ℕ, ◌*◌, ◌≤◌}
 use mathlib.Core.Path.{◌≡◌, refl, sym, ◌∙◌}
-use mathlib.Core.Bool.{Bool, true, false, not, ◌&&◌}
+use mathlib.Core.Bool.{Bool, true, false, ◌&&◌}
 use lib.Dec.{leb, eqb}
-use borrow.Author.Tests.{leb-true, eqb-true, not-true, not-false}
+use borrow.Author.Tests.{leb-true, eqb-true}
 use Rattle.tables.specs.Answers.{unless}
 use Rattle.tables.specs.Net.{fit, node_rows, edge_rows, node_cells, edge_cells}
 
@@ -53,14 +53,14 @@ fit-says weights heads registers links ends n m h =
       m_within = leb-true _ _ (and_r (t1 && t2 && t3 && t4 && t5 && t6) (leb m registers) h);
     }
 
--- a call of `fits` whose result is negated and tested: what either way says
-pub misfit : {r b : Bool} → r ≡ b → not r ≡ true → b ≡ false
-misfit {r} {b} e h = sym e ∙ not-true r h
+-- a call of `fits` whose result is tested: what either way says
+pub misfit : {r b : Bool} → r ≡ b → r ≡ false → b ≡ false
+misfit {r} {b} e h = sym e ∙ h
 
-pub fitted : {r b : Bool} → r ≡ b → not r ≡ false → b ≡ true
-fitted {r} {b} e h = sym e ∙ not-false r h
+pub fitted : {r b : Bool} → r ≡ b → r ≡ true → b ≡ true
+fitted {r} {b} e h = sym e ∙ h
 
-pub fitting : {weights heads registers links ends n m : ℕ} {r : Bool} → r ≡ fit weights heads registers links ends n m → not r ≡ false
+pub fitting : {weights heads registers links ends n m : ℕ} {r : Bool} → r ≡ fit weights heads registers links ends n m → r ≡ true
     → Fit weights heads registers links ends n m
 fitting {weights} {heads} {registers} {links} {ends} {n} {m} e h = fit-says weights heads registers links ends n m (fitted e h)
 
