@@ -14,8 +14,7 @@ use loops::parts::{edge_adds, removal_adds};
 use std::num::wrapping_add_u64;
 
 // An edge for each row of three cells: source, target, register number.
-#[unsafe(no_mangle)]
-pub extern "C" fn loop_dir_add_edges(
+pub fn loop_dir_add_edges(
     weights: &[i32],
     heads: &mut [u32],
     registers: &mut [u32],
@@ -46,8 +45,7 @@ pub extern "C" fn loop_dir_add_edges(
 }
 
 // The edge that bears each number.
-#[unsafe(no_mangle)]
-pub extern "C" fn loop_find_numbers(
+pub fn loop_find_numbers(
     weights: &[i32],
     heads: &[u32],
     registers: &[u32],
@@ -72,8 +70,7 @@ pub extern "C" fn loop_find_numbers(
 }
 
 // Takes out the edge that bears each number.
-#[unsafe(no_mangle)]
-pub extern "C" fn loop_remove_numbers(
+pub fn loop_remove_numbers(
     weights: &[i32],
     heads: &mut [u32],
     registers: &mut [u32],

@@ -30,8 +30,7 @@ use index::{EdgeIndex, NodeIndex};
 use removal::EdgeRemoved;
 
 // Accepts exactly the sound networks with a right directory; at 6 the place of the first fault, which for the directory is incoming, n + 1.
-#[unsafe(no_mangle)]
-pub extern "C" fn net_dir_check(
+pub fn net_dir_check(
     weights: &[i32],
     heads: &[u32],
     registers: &[u32],
@@ -52,8 +51,7 @@ pub extern "C" fn net_dir_check(
 }
 
 // One more edge from a to b; its number.
-#[unsafe(no_mangle)]
-pub extern "C" fn net_dir_add_edge(
+pub fn net_dir_add_edge(
     weights: &[i32],
     heads: &mut [u32],
     registers: &mut [u32],
@@ -87,8 +85,7 @@ pub extern "C" fn net_dir_add_edge(
 }
 
 // Sets the weight of the edge that is found, else adds one; its number.
-#[unsafe(no_mangle)]
-pub extern "C" fn net_dir_update_edge(
+pub fn net_dir_update_edge(
     weights: &[i32],
     heads: &mut [u32],
     registers: &mut [u32],
@@ -122,8 +119,7 @@ pub extern "C" fn net_dir_update_edge(
 }
 
 // Sets the weight of edge e, and moves its entry.
-#[unsafe(no_mangle)]
-pub extern "C" fn net_dir_set_edge_weight(
+pub fn net_dir_set_edge_weight(
     weights: &[i32],
     heads: &[u32],
     registers: &mut [u32],
@@ -154,8 +150,7 @@ pub extern "C" fn net_dir_set_edge_weight(
 }
 
 // Takes out edge e: its weight, the old number of the row that moved into its place (`END` where none did), the rows read.
-#[unsafe(no_mangle)]
-pub extern "C" fn net_dir_remove_edge(
+pub fn net_dir_remove_edge(
     weights: &[i32],
     heads: &mut [u32],
     registers: &mut [u32],
@@ -187,8 +182,7 @@ pub extern "C" fn net_dir_remove_edge(
 }
 
 // Takes out node a with its edges: its weight, the rows read, how many edge weights are in the table.
-#[unsafe(no_mangle)]
-pub extern "C" fn net_dir_remove_node(
+pub fn net_dir_remove_node(
     weights: &mut [i32],
     heads: &mut [u32],
     registers: &mut [u32],
@@ -223,8 +217,7 @@ pub extern "C" fn net_dir_remove_node(
 }
 
 // Takes out all edges; no number stands in any row.
-#[unsafe(no_mangle)]
-pub extern "C" fn net_dir_clear_edges(
+pub fn net_dir_clear_edges(
     weights: &[i32],
     heads: &mut [u32],
     registers: &mut [u32],
@@ -242,8 +235,7 @@ pub extern "C" fn net_dir_clear_edges(
 }
 
 // Takes out all nodes and edges; no number stands in any row.
-#[unsafe(no_mangle)]
-pub extern "C" fn net_dir_clear(
+pub fn net_dir_clear(
     weights: &mut [i32],
     heads: &mut [u32],
     registers: &mut [u32],
@@ -261,8 +253,7 @@ pub extern "C" fn net_dir_clear(
 }
 
 // The image of the network; its length.
-#[unsafe(no_mangle)]
-pub extern "C" fn net_dir_image_write(
+pub fn net_dir_image_write(
     weights: &[i32],
     heads: &[u32],
     registers: &[u32],
@@ -284,8 +275,7 @@ pub extern "C" fn net_dir_image_write(
 }
 
 // The network that an image has, in place of the one lent, and its directory.
-#[unsafe(no_mangle)]
-pub extern "C" fn net_dir_image_read(
+pub fn net_dir_image_read(
     weights: &mut [i32],
     heads: &mut [u32],
     registers: &mut [u32],
@@ -306,8 +296,7 @@ pub extern "C" fn net_dir_image_read(
 }
 
 // The edge that bears register number r.
-#[unsafe(no_mangle)]
-pub extern "C" fn net_dir_find_number(
+pub fn net_dir_find_number(
     weights: &[i32],
     heads: &[u32],
     registers: &[u32],
@@ -326,8 +315,7 @@ pub extern "C" fn net_dir_find_number(
 }
 
 // Takes out the edge that bears register number r: what the removal of that edge tells.
-#[unsafe(no_mangle)]
-pub extern "C" fn net_dir_remove_number(
+pub fn net_dir_remove_number(
     weights: &[i32],
     heads: &mut [u32],
     registers: &mut [u32],

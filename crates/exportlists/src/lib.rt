@@ -22,8 +22,7 @@ use walker::{Walker, sum_around};
 use walks::{edge_weights, edge_weights_mut, edges, edges_between, edges_mut, neighbors};
 
 // The neighbours of node a; how many.
-#[unsafe(no_mangle)]
-pub extern "C" fn net_neighbors(
+pub fn net_neighbors(
     weights: &[i32],
     heads: &[u32],
     registers: &[u32],
@@ -53,8 +52,7 @@ pub extern "C" fn net_neighbors(
 }
 
 // The register numbers of the same edges; how many.
-#[unsafe(no_mangle)]
-pub extern "C" fn net_edge_weights(
+pub fn net_edge_weights(
     weights: &[i32],
     heads: &[u32],
     registers: &[u32],
@@ -84,8 +82,7 @@ pub extern "C" fn net_edge_weights(
 }
 
 // The numbers of those whose far end is b; how many.
-#[unsafe(no_mangle)]
-pub extern "C" fn net_edges_between(
+pub fn net_edges_between(
     weights: &[i32],
     heads: &[u32],
     registers: &[u32],
@@ -117,8 +114,7 @@ pub extern "C" fn net_edges_between(
 }
 
 // The numbers of all edges of node a, incoming ones first; how many.
-#[unsafe(no_mangle)]
-pub extern "C" fn net_edges_mut(
+pub fn net_edges_mut(
     weights: &[i32],
     heads: &[u32],
     registers: &[u32],
@@ -148,8 +144,7 @@ pub extern "C" fn net_edges_mut(
 }
 
 // The rows of the mutable weights: those of `edges_mut`.
-#[unsafe(no_mangle)]
-pub extern "C" fn net_edge_weights_mut(
+pub fn net_edge_weights_mut(
     weights: &[i32],
     heads: &[u32],
     registers: &[u32],
@@ -179,8 +174,7 @@ pub extern "C" fn net_edge_weights_mut(
 }
 
 // Number, source and target of each edge of the neighbour walk; how many.
-#[unsafe(no_mangle)]
-pub extern "C" fn net_edges(
+pub fn net_edges(
     weights: &[i32],
     heads: &[u32],
     registers: &[u32],
@@ -214,8 +208,7 @@ pub extern "C" fn net_edges(
 }
 
 // The first edge of a whose far end is b.
-#[unsafe(no_mangle)]
-pub extern "C" fn net_find_edge(
+pub fn net_find_edge(
     weights: &[i32],
     heads: &[u32],
     registers: &[u32],
@@ -244,8 +237,7 @@ pub extern "C" fn net_find_edge(
 }
 
 // 1 where there is such an edge, else 0.
-#[unsafe(no_mangle)]
-pub extern "C" fn net_contains_edge(
+pub fn net_contains_edge(
     weights: &[i32],
     heads: &[u32],
     registers: &[u32],
@@ -274,8 +266,7 @@ pub extern "C" fn net_contains_edge(
 }
 
 // Sets the weight of the edge that is found, or adds one; its number.
-#[unsafe(no_mangle)]
-pub extern "C" fn net_update_edge(
+pub fn net_update_edge(
     weights: &[i32],
     heads: &mut [u32],
     registers: &mut [u32],
@@ -307,8 +298,7 @@ pub extern "C" fn net_update_edge(
 }
 
 // The sum of the totals of the neighbours of node a.
-#[unsafe(no_mangle)]
-pub extern "C" fn net_sum_around(
+pub fn net_sum_around(
     weights: &[i32],
     heads: &[u32],
     registers: &[u32],
@@ -326,8 +316,7 @@ pub extern "C" fn net_sum_around(
 }
 
 // The rows read of a sound network; at 6 direction and node of the first fault.
-#[unsafe(no_mangle)]
-pub extern "C" fn net_check(
+pub fn net_check(
     weights: &[i32],
     heads: &[u32],
     registers: &[u32],
@@ -346,8 +335,7 @@ pub extern "C" fn net_check(
 }
 
 // A walker at the heads of node a's two lists: the node, its next outgoing and its next incoming edge.
-#[unsafe(no_mangle)]
-pub extern "C" fn net_walker_new(
+pub fn net_walker_new(
     weights: &[i32],
     heads: &[u32],
     registers: &[u32],
@@ -365,8 +353,7 @@ pub extern "C" fn net_walker_new(
 }
 
 // The lent walker, moved on by one neighbour.
-#[unsafe(no_mangle)]
-pub extern "C" fn net_walker_next(
+pub fn net_walker_next(
     weights: &[i32],
     heads: &[u32],
     registers: &[u32],

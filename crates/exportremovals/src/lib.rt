@@ -16,8 +16,7 @@ use index::{EdgeIndex, NodeIndex};
 use removal::remove_edge;
 
 // Takes out edge e: its weight, the old number of the row that moved into its place (`END` where none did), the rows read.
-#[unsafe(no_mangle)]
-pub extern "C" fn net_remove_edge(
+pub fn net_remove_edge(
     weights: &[i32],
     heads: &mut [u32],
     registers: &mut [u32],
@@ -38,8 +37,7 @@ pub extern "C" fn net_remove_edge(
 }
 
 // Takes out node a with its edges: its weight, the rows read, how many edge weights are in the table.
-#[unsafe(no_mangle)]
-pub extern "C" fn net_remove_node(
+pub fn net_remove_node(
     weights: &mut [i32],
     heads: &mut [u32],
     registers: &mut [u32],
@@ -71,8 +69,7 @@ pub extern "C" fn net_remove_node(
 }
 
 // The image of the network; its length.
-#[unsafe(no_mangle)]
-pub extern "C" fn net_image_write(
+pub fn net_image_write(
     weights: &[i32],
     heads: &[u32],
     registers: &[u32],
@@ -91,8 +88,7 @@ pub extern "C" fn net_image_write(
 }
 
 // The network that an image has, in place of the one lent.
-#[unsafe(no_mangle)]
-pub extern "C" fn net_image_read(
+pub fn net_image_read(
     weights: &mut [i32],
     heads: &mut [u32],
     registers: &mut [u32],

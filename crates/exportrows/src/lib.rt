@@ -20,8 +20,7 @@ use lookups::{
 use rows::{add_edge, add_node, all_edge_weights, clear, clear_edges};
 
 // The total of node a.
-#[unsafe(no_mangle)]
-pub extern "C" fn net_node_weight(
+pub fn net_node_weight(
     weights: &[i32],
     heads: &[u32],
     registers: &[u32],
@@ -39,8 +38,7 @@ pub extern "C" fn net_node_weight(
 }
 
 // The register number of edge e.
-#[unsafe(no_mangle)]
-pub extern "C" fn net_edge_weight(
+pub fn net_edge_weight(
     weights: &[i32],
     heads: &[u32],
     registers: &[u32],
@@ -58,8 +56,7 @@ pub extern "C" fn net_edge_weight(
 }
 
 // Source and target of edge e.
-#[unsafe(no_mangle)]
-pub extern "C" fn net_edge_endpoints(
+pub fn net_edge_endpoints(
     weights: &[i32],
     heads: &[u32],
     registers: &[u32],
@@ -78,8 +75,7 @@ pub extern "C" fn net_edge_endpoints(
 }
 
 // The first edge of node a in a direction: 0 is outgoing, any other number incoming.
-#[unsafe(no_mangle)]
-pub extern "C" fn net_first_edge(
+pub fn net_first_edge(
     weights: &[i32],
     heads: &[u32],
     registers: &[u32],
@@ -108,8 +104,7 @@ pub extern "C" fn net_first_edge(
 }
 
 // The edge after edge e in a direction.
-#[unsafe(no_mangle)]
-pub extern "C" fn net_next_edge(
+pub fn net_next_edge(
     weights: &[i32],
     heads: &[u32],
     registers: &[u32],
@@ -138,8 +133,7 @@ pub extern "C" fn net_next_edge(
 }
 
 // Sets the total of node a.
-#[unsafe(no_mangle)]
-pub extern "C" fn net_set_node_weight(
+pub fn net_set_node_weight(
     weights: &mut [i32],
     heads: &[u32],
     registers: &[u32],
@@ -168,8 +162,7 @@ pub extern "C" fn net_set_node_weight(
 }
 
 // Sets the register number of edge e.
-#[unsafe(no_mangle)]
-pub extern "C" fn net_set_edge_weight(
+pub fn net_set_edge_weight(
     weights: &[i32],
     heads: &[u32],
     registers: &mut [u32],
@@ -198,8 +191,7 @@ pub extern "C" fn net_set_edge_weight(
 }
 
 // One more node; its number.
-#[unsafe(no_mangle)]
-pub extern "C" fn net_add_node(
+pub fn net_add_node(
     weights: &mut [i32],
     heads: &mut [u32],
     registers: &[u32],
@@ -218,8 +210,7 @@ pub extern "C" fn net_add_node(
 }
 
 // One more edge; its number.
-#[unsafe(no_mangle)]
-pub extern "C" fn net_add_edge(
+pub fn net_add_edge(
     weights: &[i32],
     heads: &mut [u32],
     registers: &mut [u32],
@@ -251,8 +242,7 @@ pub extern "C" fn net_add_edge(
 }
 
 // The register numbers of all edges, in row order; how many.
-#[unsafe(no_mangle)]
-pub extern "C" fn net_all_edge_weights(
+pub fn net_all_edge_weights(
     weights: &[i32],
     heads: &[u32],
     registers: &[u32],
@@ -271,8 +261,7 @@ pub extern "C" fn net_all_edge_weights(
 }
 
 // No edges left.
-#[unsafe(no_mangle)]
-pub extern "C" fn net_clear_edges(
+pub fn net_clear_edges(
     weights: &[i32],
     heads: &mut [u32],
     registers: &mut [u32],
@@ -289,8 +278,7 @@ pub extern "C" fn net_clear_edges(
 }
 
 // Nothing left.
-#[unsafe(no_mangle)]
-pub extern "C" fn net_clear(
+pub fn net_clear(
     weights: &mut [i32],
     heads: &mut [u32],
     registers: &mut [u32],

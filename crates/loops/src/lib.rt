@@ -17,8 +17,7 @@ use walks::neighbors;
 pub mod parts;
 
 // A node for each total.
-#[unsafe(no_mangle)]
-pub extern "C" fn loop_add_nodes(
+pub fn loop_add_nodes(
     weights: &mut [i32],
     heads: &mut [u32],
     registers: &[u32],
@@ -43,8 +42,7 @@ pub extern "C" fn loop_add_nodes(
 }
 
 // An edge for each row of three cells: source, target, register number.
-#[unsafe(no_mangle)]
-pub extern "C" fn loop_add_edges(
+pub fn loop_add_edges(
     weights: &[i32],
     heads: &mut [u32],
     registers: &mut [u32],
@@ -72,8 +70,7 @@ pub extern "C" fn loop_add_edges(
 }
 
 // The edge between the two nodes of each row of two cells.
-#[unsafe(no_mangle)]
-pub extern "C" fn loop_find_edges(
+pub fn loop_find_edges(
     weights: &[i32],
     heads: &[u32],
     registers: &[u32],
@@ -99,8 +96,7 @@ pub extern "C" fn loop_find_edges(
 }
 
 // The neighbours of every node, each time into the same table.
-#[unsafe(no_mangle)]
-pub extern "C" fn loop_neighbors(
+pub fn loop_neighbors(
     weights: &[i32],
     heads: &[u32],
     registers: &[u32],
@@ -124,8 +120,7 @@ pub extern "C" fn loop_neighbors(
 }
 
 // Takes out an edge for each number.
-#[unsafe(no_mangle)]
-pub extern "C" fn loop_remove_edges(
+pub fn loop_remove_edges(
     weights: &[i32],
     heads: &mut [u32],
     registers: &mut [u32],

@@ -21,8 +21,7 @@ pub const EDGE_ROOM: usize = 1024;
 pub const ITEM_ROOM: usize = 2048;
 
 // Runs a script from an empty network and writes its answer lines: the answer number times 2^32, plus the bytes written.
-#[unsafe(no_mangle)]
-pub extern "C" fn net_run(script: &[u8], out: &mut [u8]) -> u64
+pub fn net_run(script: &[u8], out: &mut [u8]) -> u64
     ensures { (result, out.new) ≡ packed (run script.now (length out.old)) out.old }
 {
     if MOST_BYTES < script.len() {
