@@ -3,7 +3,7 @@ use Prim.{Unit, tt}
 use Rattle.std.specs.Prelude.{ℕ, not, ltb, ℤ, pos, get_or, set}
 use Rattle.index.specs.declared.EdgeDirection.{EdgeDirection}
 use Rattle.index.specs.declared.Refusal.TheVariants.{Tables, NoNode, NoEdge, Nothing}
-use Rattle.index.specs.Index.{END, is_end, number_of}
+use Rattle.index.specs.Index.{is_end, number_of}
 use Rattle.tables.specs.Net.{Net, with_nodes, with_edges, fits, node_cell, edge_cell}
 use Rattle.tables.specs.Answers.{Told, Out, out, done, refused, unless}
 
