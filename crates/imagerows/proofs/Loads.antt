@@ -1,6 +1,6 @@
 -- The rows that a load leaves: those of the image, vacant ones past them (`loaded-node`, `loaded-edge`, `node-past`, `edge-past`),
 -- in columns of the same lengths (`loaded-fits`).
-use Prim.Native.Nat.{ℕ, zero, suc, ◌+◌, ◌-◌, ◌*◌, ◌≤◌, ◌<◌}
+use Prim.Native.Nat.{ℕ, zero, suc, ◌-◌, ◌*◌, ◌≤◌, ◌<◌}
 use mathlib.Core.Path.{◌≡◌, refl, sym, ap, ◌∙◌}
 use mathlib.Core.Bool.{true}
 use mathlib.Core.List.{List, ◌++◌}

@@ -1,0 +1,6 @@
+-- Head, nodes and edges one behind the other.
+use Rattle.imagerows.proofs.Served.{image_placed}
+use Rattle.imagerows.proofs.parts.write.Goals as goal
+
+pub returns : goal.returns
+returns c = image_placed _ _ c.requires.edges.bytes_hold c.put_head.ensures c.write_nodes.ensures c.write_edges.ensures
