@@ -1,0 +1,61 @@
+use Rattle.std.proofs.Common.{◌<◌, refl, sym, ◌∙◌, arith}
+use native.Mathlib.Nat.{sub-zero}
+use Rattle.lists.specs.declared.Spot.TheVariants.{Head, After}
+use Rattle.links.specs.Links.{heads_at, links_at}
+use Rattle.links.proofs.Seeks.{seek_found, seek-spent, seek-past, seek-step}
+use Rattle.links.proofs.parts.change_link.Goals as goal
+
+pub returns-then-first-e : goal.returns-then-first-e
+unfolding heads_at links_at
+returns-then-first-e c =
+    record {
+      answer_is = sym (seek_found _ _ _ (Head _) 0 c.requires.first_is _ c.if-first-e.true);
+      heads_are = rw c.index.ensures;
+      links_are = refl;
+    }
+
+pub loop-rows-init : goal.loop-rows-init
+loop-rows-init c =
+    (record { few = omega arith; wide = c.ranges.first.fits; other = c.if-first-e.false; so_far = λ a q. (Head a, q, rw sub-zero) }, refl)
+
+pub loop-rows-preserved : goal.loop-rows-preserved
+loop-rows-preserved c =
+    let i = c.loop-rows.invariant.0 in
+    let l = c.loop-rows.invariant.1 in
+    let q = c.index-in-loop-rows.ensures in
+    let left : c.loop-rows.rows < c.args.m = omega arith in
+    rw q (
+      record {
+        few = omega arith;
+        wide = (c.type_inv.links _).fits;
+        other = λ h. omega (arith, h, rw q at c.if-next-e.false);
+        so_far = λ a p. (let w = i.so_far a p in (After c.loop-rows.link, rw l, sym (seek-step _ _ _ _ _ w.1 i.other c.if-m-link.false left) ∙ w.2));
+      },
+      l,
+    )
+
+pub returns-then-rows-m : goal.returns-then-rows-m
+returns-then-rows-m c =
+    let i = c.loop-rows.invariant.0 in
+    let w = i.so_far _ c.requires.first_is in
+    record { answer_is = sym (seek-spent _ _ _ _ _ w.1 i.other c.if-rows-m.true) ∙ w.2; heads_are = refl; links_are = c.loop-rows.invariant.1 }
+
+pub returns-then-m-link : goal.returns-then-m-link
+returns-then-m-link c =
+    let i = c.loop-rows.invariant.0 in
+    let w = i.so_far _ c.requires.first_is in
+    record { answer_is = sym (seek-past _ _ _ _ _ w.1 _ i.other c.if-m-link.true) ∙ w.2; heads_are = refl; links_are = c.loop-rows.invariant.1 }
+
+pub returns-then-next-e : goal.returns-then-next-e
+unfolding heads_at links_at
+returns-then-next-e c =
+    let i = c.loop-rows.invariant.0 in
+    let l = c.loop-rows.invariant.1 in
+    let w = i.so_far _ c.requires.first_is in
+    let q = c.index-in-loop-rows.ensures in
+    let left : c.loop-rows.rows < c.args.m = omega arith in
+    record {
+      answer_is = sym (seek_found _ _ _ _ _ (rw (q, l)) _ c.if-next-e.true) ∙ sym (seek-step _ _ _ _ _ w.1 i.other c.if-m-link.false left) ∙ w.2;
+      heads_are = refl;
+      links_are = rw (q, l);
+    }
