@@ -4,12 +4,13 @@
 // has left; then the image of one node.
 #![tactic(auto)]
 
-ghost use Rattle.std.specs.Prelude.{◌≤◌, ◌≡◌, length, take};
+ghost use Rattle.std.specs.Prelude.{◌≤◌, ◌≡◌, IfOk, length, take};
 
 use image::{image_read, image_write};
 use index::{EdgeIndex, NodeIndex};
-use libc::STDIN_FILENO;
 use script::parts::run_lines;
+use std::io;
+use std::io::Read;
 use tables::Changed;
 use tables::parts::{EDGE_CELLS, NODE_CELLS};
 
@@ -25,8 +26,23 @@ fn lend(bytes: &[u8], len: usize) -> usize
     bytes.len()
 }
 
+// Reads to the end, or until `script` is full, and answers how many bytes. A pipe gives it in pieces.
+fn read_script<R: Read>(input: &mut R, script: &mut [u8]) -> io::Result<usize>
+    ensures { IfOk result (λ n. n ≤ length script.new) }
+{
+    let mut at: usize = 0;
+    while at < script.len() {
+        let more = input.read(&mut script[at..])?;
+        if more == 0 {
+            break;
+        }
+        at += more;
+    }
+    Ok(at)
+}
+
 // Obeys a script in an empty network. It has no G, which alone would need tables of sources and of targets.
-fn run(script: &[u8])
+fn run(rt: &impl Print, script: &[u8]) -> io::Result<()>
     requires { length script.now ≤ 1024 }
 {
     let mut out = [0u8; 1024];
@@ -53,24 +69,24 @@ fn run(script: &[u8])
         &mut [],
         &mut [],
     );
-    answers(&out, ended.bytes);
-    edge_rows(&registers, &links, &ends);
+    answers(rt, &out, ended.bytes)?;
+    edge_rows(rt, &registers, &links, &ends)
 }
 
-fn answers(out: &[u8], bytes: usize) {
+fn answers(rt: &impl Print, out: &[u8], bytes: usize) -> io::Result<()> {
     let written = lend(out, bytes);
-    show::text(&out[..written]);
+    show::text(rt, &out[..written])
 }
 
 // Those past the last in use are vacant.
-fn edge_rows(registers: &[u32], links: &[u32], ends: &[u32]) {
-    show::cells(b"weights:", registers);
-    show::cells(b"links:", links);
-    show::cells(b"ends:", ends);
+fn edge_rows(rt: &impl Print, registers: &[u32], links: &[u32], ends: &[u32]) -> io::Result<()> {
+    show::cells(rt, b"weights:", registers)?;
+    show::cells(rt, b"links:", links)?;
+    show::cells(rt, b"ends:", ends)
 }
 
 // One node weighing -3, no edges: its image, and what a read of 24 bytes of it is refused with.
-fn one_node() {
+fn one_node(rt: &impl Print) -> io::Result<()> {
     let mut bytes = [0u8; 25];
     image_write(
         &[-3],
@@ -82,12 +98,12 @@ fn one_node() {
         0,
         &mut bytes,
     );
-    show::bytes(b"image:", &bytes);
+    show::bytes(rt, b"image:", &bytes)?;
     let short = lend(&bytes, 24);
-    read(&bytes[..short]);
+    read(rt, &bytes[..short])
 }
 
-fn read(bytes: &[u8]) {
+fn read(rt: &impl Print, bytes: &[u8]) -> io::Result<()> {
     let mut weights = [0i32; 1];
     let mut heads = [EdgeIndex::END.0; NODE_CELLS];
     let mut n = 0;
@@ -102,19 +118,19 @@ fn read(bytes: &[u8]) {
         &mut m,
         bytes,
     );
-    told(answer);
+    told(rt, answer)
 }
 
-fn told(answer: Changed) {
+fn told(rt: &impl Print, answer: Changed) -> io::Result<()> {
     let Changed::Refused(why) = answer else {
-        return;
+        return Ok(());
     };
-    show::cells(b"24 bytes of it, refused:", &[why.number()]);
+    show::cells(rt, b"24 bytes of it, refused:", &[why.number()])
 }
 
-fn main() {
+fn main(rt: HostRuntime) -> io::Result<()> {
     let mut script = [0u8; 1024];
-    let read = io::read_full(STDIN_FILENO, &mut script);
-    run(&script[..read]);
-    one_node();
+    let read = read_script(&mut rt.stdin(), &mut script)?;
+    run(&rt, &script[..read])?;
+    one_node(&rt)
 }

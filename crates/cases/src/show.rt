@@ -1,28 +1,28 @@
 // How a case is printed: a space before each number and each byte, `END` by name, and bytes in hexadecimal.
-use libc::STDOUT_FILENO;
 use printer::print_number;
+use std::io;
 
-pub fn text(s: &[u8]) {
-    io::write_all(STDOUT_FILENO, s);
+pub fn text(rt: &impl Print, s: &[u8]) -> io::Result<()> {
+    rt.write_all(s)
 }
 
-fn number(x: u32) {
+fn number(rt: &impl Print, x: u32) -> io::Result<()> {
     if x == 4294967295 {
-        text(b" END");
-        return;
+        return text(rt, b" END");
     }
-    text(b" ");
-    print_number(x as u64);
+    text(rt, b" ")?;
+    print_number(rt, x as u64);
+    Ok(())
 }
 
-pub fn cells(label: &[u8], column: &[u32]) {
-    text(label);
+pub fn cells(rt: &impl Print, label: &[u8], column: &[u32]) -> io::Result<()> {
+    text(rt, label)?;
     let mut i = 0;
     while i < column.len() {
-        number(column[i]);
+        number(rt, column[i])?;
         i += 1;
     }
-    text(b"\n");
+    text(rt, b"\n")
 }
 
 // The last hexadecimal digit.
@@ -34,14 +34,14 @@ fn digit(x: u8) -> u8 {
     b'A' - 10 + last
 }
 
-pub fn bytes(label: &[u8], column: &[u8]) {
-    text(label);
+pub fn bytes(rt: &impl Print, label: &[u8], column: &[u8]) -> io::Result<()> {
+    text(rt, label)?;
     let mut i = 0;
     while i < column.len() {
         let x = column[i];
         let shown = [b' ', digit(x / 16), digit(x)];
-        text(&shown);
+        text(rt, &shown)?;
         i += 1;
     }
-    text(b"\n");
+    text(rt, b"\n")
 }

@@ -4,9 +4,8 @@
 
 ghost use Rattle.std.specs.Prelude.{◌≤◌};
 
-use io::write_all;
-use libc::STDOUT_FILENO;
 use script::MOST_BYTES;
+use std::io;
 use telling::parts::{TOLD_BYTES, tell_run};
 
 // So many bytes are shown: the last answer line, and the ending.
@@ -22,19 +21,19 @@ fn last(len: usize) -> usize
     len - SHOWN
 }
 
-fn show_last(told: &[u8]) {
+fn show_last(rt: &impl Print, told: &[u8]) -> io::Result<()> {
     let from = last(told.len());
-    write_all(STDOUT_FILENO, &told[from..]);
+    rt.write_all(&told[from..])
 }
 
-fn show(script: &[u8]) {
+fn show(rt: &impl Print, script: &[u8]) -> io::Result<()> {
     let mut out = [0u8; TOLD_BYTES];
     let written = tell_run(script, &mut out);
-    show_last(&out[..written]);
+    show_last(rt, &out[..written])
 }
 
-fn main() {
+fn main(rt: HostRuntime) -> io::Result<()> {
     let script = [b'\n'; MOST_BYTES + 1];
-    show(&script[..MOST_BYTES]);
-    show(&script);
+    show(&rt, &script[..MOST_BYTES])?;
+    show(&rt, &script)
 }

@@ -1,82 +1,69 @@
 // Answers the script on standard input: its answer lines, then `! 7` where one of them did not fit; alone `! 1` where the
-// script is too long. Which bytes these are is proved (`telling`); that they are read and written is C's.
+// script is too long. Which bytes these are is proved (`telling`); that they are read and written is the system's.
 #![tactic(auto)]
 
-ghost use Rattle.io.specs.Counts.{IsPrefixLen};
+ghost use Rattle.std.specs.Prelude.{IfOk, ◌≤◌, length};
 
-use io::write_all;
-use libc::{STDERR_FILENO, STDIN_FILENO, STDOUT_FILENO};
 use script::MOST_BYTES;
+use std::io;
+use std::io::{Read, Write};
 use telling::parts::{TOLD_BYTES, tell_run};
 
 // One byte more than a script may have: where it is read too, the script is too long.
 const ROOM: usize = MOST_BYTES + 1;
 
-// How many bytes were read, and whether all could be.
-#[derive(Clone, Copy)]
-struct Input {
-    bytes: usize,
-    whole: bool,
-}
-
-// Reads standard input to its end, or until `script` is full. A pipe gives it in pieces.
-fn read_script(script: &mut [u8]) -> Input
-    ensures { IsPrefixLen result.bytes script.new }
+// Reads to the end, or until `script` is full, and answers how many bytes. A pipe gives it in pieces.
+fn read_script<R: Read>(input: &mut R, script: &mut [u8]) -> io::Result<usize>
+    ensures { IfOk result (λ n. n ≤ length script.new) }
 {
     let mut at: usize = 0;
     while at < script.len() {
-        let got = libc::read(STDIN_FILENO, &mut script[at..]);
-        if got < 0 {
-            return Input {
-                bytes: at,
-                whole: false,
-            };
-        }
-        let more = io::count(got, &script[at..]);
+        let more = input.read(&mut script[at..])?;
         if more == 0 {
             break;
         }
         at += more;
     }
-    Input {
-        bytes: at,
-        whole: true,
-    }
+    Ok(at)
 }
 
 // Reads on where the script is too long, and answers whether there was more.
-fn read_more() -> bool {
-    let mut rest = io::buffer();
-    let got = libc::read(STDIN_FILENO, &mut rest);
-    0 < got
+fn read_more<R: Read>(input: &mut R) -> bool {
+    let mut rest = [0u8; 4096];
+    match input.read(&mut rest) {
+        Ok(more) => 0 < more,
+        Err(_) => false,
+    }
 }
 
 // Reads the rest of a script that is too long, so that whoever writes it can end. Nothing says that an input ends, so the
-// turns are counted down from a number that no run uses up.
-fn read_rest() {
-    let mut turns = u64::MAX;
-    while 0 < turns && read_more() {
-        turns -= 1;
+// turns are numbered, up to a number that no run reaches.
+fn read_rest<R: Read>(input: &mut R) {
+    for _ in 0..u64::MAX {
+        if !read_more(input) {
+            break;
+        }
     }
 }
 
-fn main() {
+// Tells on standard error what went wrong. Where that fails too, nobody is left to be told.
+fn complain(rt: &impl Eprint, what: &str) {
+    let _ = rt.eprintln(what);
+}
+
+fn main(rt: HostRuntime) {
+    let mut input = rt.stdin();
     let mut script = [0u8; ROOM];
-    let input = read_script(&mut script);
-    if !input.whole {
-        write_all(STDERR_FILENO, b"netrun: standard input cannot be read\n");
+    let Ok(got) = read_script(&mut input, &mut script) else {
+        complain(&rt, "netrun: standard input cannot be read");
         return;
-    }
-    let got = input.bytes;
+    };
     if got == ROOM {
-        read_rest();
+        read_rest(&mut input);
     }
     let mut out = [0u8; TOLD_BYTES];
     let written = tell_run(&script[..got], &mut out);
-    if !write_all(STDOUT_FILENO, &out[..written]) {
-        write_all(
-            STDERR_FILENO,
-            b"netrun: standard output cannot be written\n",
-        );
+    if Print::write_all(&rt, &out[..written]).is_err() {
+        complain(&rt, "netrun: standard output cannot be written");
     }
 }

@@ -1,27 +1,40 @@
 // Numbers as the programs print them: a digit at a time, straight to standard output, the first one first.
 #![tactic(auto)]
 
-ghost use Rattle.std.specs.Prelude.{◌<◌};
+ghost use Rattle.std.specs.Prelude.{◌<◌, [], ◌∷◌, OnOk};
+ghost use Rattle.std.specs.Io.KnownBytes.{Appends};
+ghost use Rattle.printing.specs.Bytes.{glyph};
+ghost use Rattle.printing.specs.Digits.{digits};
 
-use io::write_all;
-use libc::STDOUT_FILENO;
 use printing::parts::{glyph, leading};
+use std::io;
+use std::io::Write;
 
-// Prints a digit, and answers whether it could be written. C takes bytes from memory, so the one stands in an array.
-fn print_digit(d: u64) -> bool
+// Writes a digit. A writer takes bytes from memory, so the one stands in an array.
+fn write_digit<W: Write>(out: &mut W, d: u64) -> io::Result<()>
     requires { d < 10 }
+    ensures { OnOk result (Appends (W.contents out.old) (W.contents out.new) (glyph d ∷ [])) }
 {
-    let byte = [glyph(d)];
-    write_all(STDOUT_FILENO, &byte)
+    out.write_all(&[glyph(d)])
 }
 
-// Prints x by the loop of `printing::parts::write_number`: 345 is 3 times 100, its rest 45 is 4 times 10, and the rest of that 5 times 1. Each
+// Writes x by the loop of `printing::parts::write_number`: 345 is 3 times 100, its rest 45 is 4 times 10, and the rest of that 5 times 1. Each
 // power is a tenth of the one before; a tenth of 1 is 0. Where a digit cannot be written the number ends, so that none is missing within it.
-pub fn print_number(x: u64) {
+fn write_digits<W: Write>(out: &mut W, x: u64) -> io::Result<()>
+    ensures { OnOk result (Appends (W.contents out.old) (W.contents out.new) (digits x)) }
+{
     let mut rest = x;
     let mut power = leading(x);
-    while 0 < power && print_digit(rest / power) {
+    while 0 < power {
+        write_digit(out, rest / power)?;
         rest = rest % power;
         power = power / 10;
     }
+    Ok(())
+}
+
+// Prints x. Nothing is answered: where x could not be written, what is printed next fails too, and tells it.
+pub fn print_number(rt: &impl Print, x: u64) {
+    let mut out = io::writer(rt);
+    let _ = write_digits(&mut out, x);
 }

@@ -8,10 +8,10 @@
 
 ghost use Rattle.std.specs.Prelude.{◌≤◌, ◌<◌, ◌≡◌, length, take};
 
-use io::{read_full, write_all};
-use libc::{STDIN_FILENO, STDOUT_FILENO};
 use printer::print_number;
 use script::net_run;
+use std::io;
+use std::io::{ErrorKind, Read};
 
 // Room for the longest script of the list, and more than for its longest buffer: what lies behind a buffer is not to be touched either.
 const SCRIPT_ROOM: usize = 16385;
@@ -28,19 +28,29 @@ fn digit(x: u8) -> usize
     x as usize % 16
 }
 
-fn read_number() -> usize {
-    let mut text = [0u8; 6];
-    read_full(STDIN_FILENO, &mut text);
-    10000 * digit(text[0])
-        + 1000 * digit(text[1])
-        + 100 * digit(text[2])
-        + 10 * digit(text[3])
-        + digit(text[4])
+// Fills the bytes from the input. Where it ends, those behind its end stay as they were.
+fn fill<R: Read>(input: &mut R, bytes: &mut [u8]) -> io::Result<()> {
+    match input.read_exact(bytes) {
+        Err(e) if e.kind() == ErrorKind::UnexpectedEof => Ok(()),
+        filled => filled,
+    }
 }
 
-fn print_with(x: usize, behind: &[u8]) {
-    print_number(x as u64);
-    write_all(STDOUT_FILENO, behind);
+fn read_number<R: Read>(input: &mut R) -> io::Result<usize> {
+    let mut text = [0u8; 6];
+    fill(input, &mut text)?;
+    Ok(
+        10000 * digit(text[0])
+            + 1000 * digit(text[1])
+            + 100 * digit(text[2])
+            + 10 * digit(text[3])
+            + digit(text[4]),
+    )
+}
+
+fn print_with(rt: &impl Print, x: usize, behind: &[u8]) -> io::Result<()> {
+    print_number(rt, x as u64);
+    rt.write_all(behind)
 }
 
 // At most `len` of the bytes. The contract is what `&bytes[..lent]` asks.
@@ -71,41 +81,41 @@ fn run(script: &[u8], out: &mut [u8], room: usize) -> u64 {
     net_run(script, &mut out[..lent])
 }
 
-fn answer(place: usize, script: &[u8], room: usize) {
+fn answer(rt: &impl Print, place: usize, script: &[u8], room: usize) -> io::Result<()> {
     let mut out = [MARK; OUT_ROOM];
     let told = run(script, &mut out, room);
     let written = (told % 4294967296) as usize;
-    print_with(place, b": ");
-    print_with((told / 4294967296) as usize, b" ");
-    print_with(written, b" ");
-    print_with(touched(&out, written), b"\n");
+    print_with(rt, place, b": ")?;
+    print_with(rt, (told / 4294967296) as usize, b" ")?;
+    print_with(rt, written, b" ")?;
+    print_with(rt, touched(&out, written), b"\n")?;
     let shown = lend(&out, written);
-    write_all(STDOUT_FILENO, &out[..shown]);
+    rt.write_all(&out[..shown])
 }
 
-fn read_bytes(bytes: &mut [u8], len: usize) {
+fn read_bytes<R: Read>(input: &mut R, bytes: &mut [u8], len: usize) -> io::Result<()> {
     let lent = lend(bytes, len);
-    read_full(STDIN_FILENO, &mut bytes[..lent]);
+    fill(input, &mut bytes[..lent])
 }
 
 // The next script of the list, and its answer.
-fn ask() {
-    let place = read_number();
-    let len = read_number();
-    let room = read_number();
+fn ask<R: Read>(rt: &impl Print, input: &mut R) -> io::Result<()> {
+    let place = read_number(input)?;
+    let len = read_number(input)?;
+    let room = read_number(input)?;
     let mut script = [0u8; SCRIPT_ROOM];
-    read_bytes(&mut script, len);
+    read_bytes(input, &mut script, len)?;
     let mut newline = [0u8; 1];
-    read_bytes(&mut newline, 1);
+    read_bytes(input, &mut newline, 1)?;
     let lent = lend(&script, len);
-    answer(place, &script[..lent], room);
+    answer(rt, place, &script[..lent], room)
 }
 
-fn main() {
-    let scripts = read_number();
-    let mut i = 0;
-    while i < scripts {
-        ask();
-        i += 1;
+fn main(rt: HostRuntime) -> io::Result<()> {
+    let mut input = rt.stdin();
+    let scripts = read_number(&mut input)?;
+    for _ in 0..scripts {
+        ask(&rt, &mut input)?;
     }
+    Ok(())
 }

@@ -1,11 +1,10 @@
 // One fault of each kind in each direction, in a network of two nodes and two edges, 0→1 and 1→0. A line has the answer
 // number, then the rows read, or the direction (0 outgoing, 1 incoming) and the node of the first fault.
 use crate::Tables;
-use index::{EdgeDirection, EdgeIndex};
-use io::write_all;
-use libc::STDOUT_FILENO;
+use index::EdgeIndex;
 use printer::print_number;
 use sound::Checked;
+use std::io;
 
 const END: u32 = EdgeIndex::END.0;
 
@@ -16,50 +15,58 @@ const LINKS: [u32; 4] = [END, END, END, END];
 
 const ENDS: [u32; 4] = [0, 1, 1, 0];
 
-pub fn run() {
+pub fn run(rt: &impl Print) -> io::Result<()> {
     // Both directions read both edges.
-    told(b"sound: ", of(HEADS, LINKS, ENDS));
+    told(rt, b"sound: ", of(HEADS, LINKS, ENDS))?;
     // 2 is not below m, and is not END.
-    told(b"outgoing link past m: ", of([0, 1, 2, 0], LINKS, ENDS));
-    told(b"incoming link past m: ", of([0, 1, 1, 2], LINKS, ENDS));
+    told(rt, b"outgoing link past m: ", of([0, 1, 2, 0], LINKS, ENDS))?;
+    told(rt, b"incoming link past m: ", of([0, 1, 1, 2], LINKS, ENDS))?;
     // Edge 1 stands in node 1's outgoing list and has source 0; edge 0 in its incoming list and has target 0.
-    told(b"outgoing wrong end: ", of(HEADS, LINKS, [0, 1, 0, 0]));
-    told(b"incoming wrong end: ", of(HEADS, LINKS, [0, 0, 1, 0]));
+    told(rt, b"outgoing wrong end: ", of(HEADS, LINKS, [0, 1, 0, 0]))?;
+    told(rt, b"incoming wrong end: ", of(HEADS, LINKS, [0, 0, 1, 0]))?;
     // An edge that leads to itself: the list does not end.
-    told(b"outgoing endless: ", of(HEADS, [0, END, END, END], ENDS));
-    told(b"incoming endless: ", of(HEADS, [END, END, END, 1], ENDS));
+    told(
+        rt,
+        b"outgoing endless: ",
+        of(HEADS, [0, END, END, END], ENDS),
+    )?;
+    told(
+        rt,
+        b"incoming endless: ",
+        of(HEADS, [END, END, END, 1], ENDS),
+    )?;
     // Every list ends, and one edge is in none: node n.
-    told(b"outgoing unlisted: ", of([0, 1, END, 0], LINKS, ENDS));
-    told(b"incoming unlisted: ", of([0, 1, 1, END], LINKS, ENDS));
+    told(rt, b"outgoing unlisted: ", of([0, 1, END, 0], LINKS, ENDS))?;
+    told(rt, b"incoming unlisted: ", of([0, 1, 1, END], LINKS, ENDS))?;
     // The first fault is told: outgoing before incoming, and in node order.
-    told(b"both directions: ", of([0, 2, 2, 0], LINKS, ENDS));
-    told(b"both nodes: ", of([2, 1, 2, 0], LINKS, ENDS));
+    told(rt, b"both directions: ", of([0, 2, 2, 0], LINKS, ENDS))?;
+    told(rt, b"both nodes: ", of([2, 1, 2, 0], LINKS, ENDS))
 }
 
 fn of(heads: [u32; 4], links: [u32; 4], ends: [u32; 4]) -> Tables {
     Tables { heads, links, ends }
 }
 
-fn told(label: &[u8], t: Tables) {
+fn told(rt: &impl Print, label: &[u8], t: Tables) -> io::Result<()> {
     let weights = [0i32; 2];
     let registers = [0u32; 2];
     let heads = t.heads;
     let links = t.links;
     let ends = t.ends;
-    write_all(STDOUT_FILENO, label);
+    rt.write_all(label)?;
     match sound::check(&weights, &heads, &registers, &links, &ends, 2, 2) {
         Checked::Accepted(rows) => {
-            print_number(0);
-            crate::count(rows);
+            print_number(rt, 0);
+            crate::count(rt, rows)?;
         }
         Checked::Fault(d, a) => {
-            print_number(6);
-            crate::number(d.number() as u64);
-            crate::count(a.0);
+            print_number(rt, 6);
+            crate::number(rt, d.number() as u64)?;
+            crate::count(rt, a.0)?;
         }
         Checked::Refused(why) => {
-            print_number(why.number() as u64);
+            print_number(rt, why.number() as u64);
         }
     }
-    write_all(STDOUT_FILENO, b"\n");
+    rt.write_all(b"\n")
 }

@@ -7,10 +7,9 @@
 ghost use Rattle.std.specs.Prelude.{◌<◌};
 
 use index::EdgeDirection;
-use io::write_all;
-use libc::STDOUT_FILENO;
 use printer::print_number;
 use sound::Checked;
+use std::io;
 
 mod faults;
 
@@ -129,45 +128,46 @@ fn all(networks: u32, n: u32, m: u32) -> Tally {
     t
 }
 
-fn number(x: u64) {
-    write_all(STDOUT_FILENO, b" ");
-    print_number(x);
+fn number(rt: &impl Print, x: u64) -> io::Result<()> {
+    rt.write_all(b" ")?;
+    print_number(rt, x);
+    Ok(())
 }
 
-fn count(x: u32) {
-    number(x as u64);
+fn count(rt: &impl Print, x: u32) -> io::Result<()> {
+    number(rt, x as u64)
 }
 
-fn line(n: u32, m: u32) {
+fn line(rt: &impl Print, n: u32, m: u32) -> io::Result<()> {
     let i = 3 * (n as usize % 3) + (m as usize % 3);
     let networks = NETWORKS[i];
     let t = all(networks, n, m);
-    print_number(n as u64);
-    count(m);
-    write_all(STDOUT_FILENO, b":");
-    count(networks);
+    print_number(rt, n as u64);
+    count(rt, m)?;
+    rt.write_all(b":")?;
+    count(rt, networks)?;
     let counts = t.counts;
-    count(counts[0]);
-    count(counts[1]);
-    count(counts[2]);
-    count(counts[3]);
-    count(counts[4]);
-    count(counts[5]);
-    count(counts[6]);
-    count(counts[7]);
-    number(t.hash);
-    write_all(STDOUT_FILENO, b"\n");
+    count(rt, counts[0])?;
+    count(rt, counts[1])?;
+    count(rt, counts[2])?;
+    count(rt, counts[3])?;
+    count(rt, counts[4])?;
+    count(rt, counts[5])?;
+    count(rt, counts[6])?;
+    count(rt, counts[7])?;
+    number(rt, t.hash)?;
+    rt.write_all(b"\n")
 }
 
-fn main() {
-    faults::run();
-    line(0, 0);
-    line(0, 1);
-    line(0, 2);
-    line(1, 0);
-    line(1, 1);
-    line(1, 2);
-    line(2, 0);
-    line(2, 1);
-    line(2, 2);
+fn main(rt: HostRuntime) -> io::Result<()> {
+    faults::run(&rt)?;
+    line(&rt, 0, 0)?;
+    line(&rt, 0, 1)?;
+    line(&rt, 0, 2)?;
+    line(&rt, 1, 0)?;
+    line(&rt, 1, 1)?;
+    line(&rt, 1, 2)?;
+    line(&rt, 2, 0)?;
+    line(&rt, 2, 1)?;
+    line(&rt, 2, 2)
 }
