@@ -18,7 +18,8 @@ use Rattle.tables.specs.Rows.{with_edge, headed}
 use Rattle.rows.specs.Calls.{linked, add_edge}
 use Rattle.sound.proofs.Kept.{fit_of, first_cell, second_cell, other_cell}
 use Rattle.original.specs.Std.{put, push, max}
-use Rattle.original.specs.Rust.{Node, Edge, Both, One, None, graph, node_with_next, index_twice, add_edge}
+use Rattle.original.specs.Rust.{Node, Edge, Both, One, None, graph, node_with_next, index_twice}
+use Rattle.original.specs.Rust as Rust
 use Rattle.alike.specs.Same.{node_at, edge_at, rows_below, rows_of, run_told, seen}
 use Rattle.alike.proofs.Vectors.{length-rows, got, alike, set_is}
 use Rattle.alike.proofs.Cells.{as_u32, not_end, node-is, edge-is, head-led}
@@ -117,8 +118,8 @@ module _ (g : Net) (a b w : ℕ) (f : fits g ≡ true) (room : g.m < length g.re
       ap₂ (λ (rows : List Node) (row : Node). set rows b (node_with_next row (put row.next 1 g.m))) (head-led g 0 g.m (omega arith) a la (omega arith)) same
       ∙ head-led h 1 g.m (omega arith) b lb (rw (length-set g.heads (node_cell a 0) g.m) (omega arith))
 
-  pub add_edge_lem : seen (add_edge g a b w) ≡ run_told NoNode 0 (rows_of g) (add_edge (rows_of g) a b w)
-  unfolding add_edge add_edge rows_of linked
+  pub add_edge_lem : seen (add_edge g a b w) ≡ run_told NoNode 0 (rows_of g) (Rust.add_edge (rows_of g) a b w)
+  unfolding add_edge Rust.add_edge rows_of linked
   add_edge_lem =
       let t = fit_of g f in
       elim (dec_lt a g.n) [

@@ -19,16 +19,17 @@ use Rattle.sound.specs.Sound.{end_at}
 use Rattle.sound.proofs.Exactly.{two}
 use Rattle.removal.specs.Lists.{renamed}
 use Rattle.removal.proofs.Stores.{row_other, row_copied}
-use Rattle.original.specs.Std.{get, Two, ◌!◌, put, as_u32}
+use Rattle.original.specs.Std.{get, Two, ◌!◌, put}
+use Rattle.original.specs.Std as Std
 use Rattle.original.specs.Rust.{Node, Edge, node_with_next, edge_with_next, edge_with_node}
 use Rattle.alike.specs.Same.{node_at, edge_at, rows_below, rows_of}
 use Rattle.alike.proofs.Vectors.{length-rows, got, got_past, set_is}
 
 -- lengths within the limits are numbers of 32 bits, and none is `END`
-pub as_u32 : (n : ℕ) → n < END → as_u32 n ≡ n
+pub as_u32 : (n : ℕ) → n < END → Std.as_u32 n ≡ n
 as_u32 n h = omega arith
 
-pub not_end : (n : ℕ) → n < END → not (eqb (as_u32 n) END) ≡ true
+pub not_end : (n : ℕ) → n < END → not (eqb (Std.as_u32 n) END) ≡ true
 not_end n h = rw (as_u32 n h, ne_eqb n END (omega arith))
 
 -- the Rust's rows of a network, got by number

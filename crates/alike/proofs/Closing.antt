@@ -30,7 +30,8 @@ use Rattle.dropping.specs.Drop.{ended, dropped}
 use Rattle.dropping.proofs.Ends.{ended-length}
 use Rattle.dropping.proofs.Dropping.{drop-totals}
 use Rattle.closing.specs.Closing.{closed_if_room, remove_node}
-use Rattle.original.specs.Std.{Run, returns, ◌>>=◌, on_option, get, swap_remove, ◌!◌, as_u32}
+use Rattle.original.specs.Std.{Run, returns, ◌>>=◌, on_option, get, swap_remove, ◌!◌}
+use Rattle.original.specs.Std as Std
 use Rattle.original.specs.Rust.{Node, Graph, graph, for_all, renumber, remove_node_with}
 use Rattle.alike.specs.Same.{node_at, edge_at, rows_below, rows_of, option_told, Ends}
 use Rattle.alike.proofs.Vectors.{length-rows, got, got_past, swapped}
@@ -79,8 +80,8 @@ module _ (h : Net) (ls : ℕ → ℕ → List ℕ) (a : ℕ) (f : fits h ≡ tru
       let t = fit_of h f in
       let s = small h f in
       let L = members h ls s S in
-      let c = S.all_End 0 b (omega arith) (omega arith) in
-      let d = S.all_End 1 b (omega arith) (omega arith) in
+      let c = S.all_end 0 b (omega arith) (omega arith) in
+      let d = S.all_end 1 b (omega arith) (omega arith) in
       rw (
         length-rows h.m (edge_at h),
         one_list 0 a b (omega arith) h.m h (Head b) (ls 0 b) s (omega arith) c ((L 0 (omega arith)).own b (omega arith)) (chain_length (link_at h 0) h.m s (Head b) (ls 0 b) c),
@@ -111,7 +112,7 @@ module _ (h : Net) (ls : ℕ → ℕ → List ℕ) (a : ℕ) (f : fits h ≡ tru
   rest given g =
       swap_remove g.nodes a >>= λ (node, nodes).
       on_option (get nodes a) (returns (some node.weight, given, graph nodes g.edges)) (λ ed.
-      for_all g.edges (λ k edges. renumber (length edges) k (as_u32 (length nodes)) a edges (ed.next ! k)) >>= λ edges.
+      for_all g.edges (λ k edges. renumber (length edges) k (Std.as_u32 (length nodes)) a edges (ed.next ! k)) >>= λ edges.
       returns (some node.weight, given, graph nodes edges))
 
   pub node-dropped : (given : List ℕ) → rest given (rows_of h) ≡ returns (some (get_or h.weights a (pos 0)), given, rows_of D)

@@ -28,7 +28,8 @@ use Rattle.sound.specs.Sound.{Sound}
 use Rattle.sound.proofs.Exactly.{small}
 use Rattle.original.specs.Std.{assert, panics, as_u32, Run, returns, endless, ◌>>=◌, on_option}
 use Rattle.original.specs.Rust.{Node, Pair, Both, One, None, on_pair, index_twice, Graph, find_along}
-use Rattle.original.specs.Rust.{find_edge_from_node, find_edge, contains_edge, add_edge, edge_weight_mut, update_edge}
+use Rattle.original.specs.Rust.{find_edge_from_node, edge_weight_mut}
+use Rattle.original.specs.Rust as Rust
 use Rattle.alike.specs.Same.{node_at, edge_at, rows_below, rows_of, option_told, run_told, seen, Ends}
 use Rattle.alike.proofs.Vectors.{length-rows, got, got_past}
 use Rattle.alike.proofs.Cells.{next_at, far_at}
@@ -89,8 +90,8 @@ module _ (g : Net) (a b : ℕ) where
       rw (length-rows g.m (edge_at g), along g 0 b (omega arith) g.m (get_or g.heads (node_cell a 0) 0), along g 1 b (omega arith) g.m (get_or g.heads (node_cell a 1) 0))
       (both_ways (picks g 0 (To (record { 0 = b })) a) (picks g 1 (To (record { 0 = b })) a) (broken g 0 a) (broken g 1 a))
 
-  pub find-run : find_edge (rows_of g) a b ≡ cond (ltb a g.n) (sought_run (sought g a b)) (returns none)
-  unfolding find_edge rows_of
+  pub find-run : Rust.find_edge (rows_of g) a b ≡ cond (ltb a g.n) (sought_run (sought g a b)) (returns none)
+  unfolding Rust.find_edge rows_of
   find-run =
       elim (dec_lt a g.n) [
         | yes l ↦ rw (lt-ltb a g.n l, got g.n (node_at g) a l) (from_node l)
@@ -106,8 +107,8 @@ module _ (g : Net) (ls : ℕ → ℕ → List ℕ) (f : fits g ≡ true) (S : So
   unfolding sought_from
   ended l =
       rw (
-        chain_ends (link_at g 0) g.m (small g f) (Head a) (ls 0 a) (S.all_End 0 a (omega arith) l),
-        chain_ends (link_at g 1) g.m (small g f) (Head a) (ls 1 a) (S.all_End 1 a (omega arith) l),
+        chain_ends (link_at g 0) g.m (small g f) (Head a) (ls 0 a) (S.all_end 0 a (omega arith) l),
+        chain_ends (link_at g 1) g.m (small g f) (Head a) (ls 1 a) (S.all_end 1 a (omega arith) l),
       )
 
   found_so : (xs ys : List ℕ) (s : Sought) → s ≡ first_in 0 xs false (first_in 1 ys false Missing)
@@ -116,7 +117,7 @@ module _ (g : Net) (ls : ℕ → ℕ → List ℕ) (f : fits g ≡ true) (S : So
   found_so [] (y ∷ ys) s q = rw q (some y, refl, refl)
   found_so [] [] s q = rw q (none, refl, refl)
 
-  pub find-edge : Ends (find_edge (rows_of g) a b) (λ o. find_edge g a b ≡ option_told (cond (ltb a g.n) Nothing NoNode) 0 o)
+  pub find-edge : Ends (Rust.find_edge (rows_of g) a b) (λ o. find_edge g a b ≡ option_told (cond (ltb a g.n) Nothing NoNode) 0 o)
   unfolding find_edge
   find-edge =
       elim (dec_lt a g.n) [
@@ -130,8 +131,8 @@ module _ (g : Net) (ls : ℕ → ℕ → List ℕ) (f : fits g ≡ true) (S : So
   held_so [] (y ∷ ys) s q = rw q (true, refl, refl)
   held_so [] [] s q = rw q (false, refl, refl)
 
-  pub contains_edge_lem : Ends (contains_edge (rows_of g) a b) (λ holds. contains_edge g a b ≡ done (cond holds 1 0))
-  unfolding contains_edge contains_edge
+  pub contains_edge_lem : Ends (Rust.contains_edge (rows_of g) a b) (λ holds. contains_edge g a b ≡ done (cond holds 1 0))
+  unfolding contains_edge Rust.contains_edge
   contains_edge_lem =
       elim (dec_lt a g.n) [
         | yes l ↦ rw (find-run g a b, f, lt-ltb a g.n l) (held_so (hits 0) (hits 1) (sought g a b) (ended l))
@@ -149,7 +150,7 @@ module _ (g : Net) (a b w : ℕ) (f : fits g ≡ true) where
       ]
 
   -- unless it is refused for want of a row
-  pub add_edge_so : ((add_edge g a b w).answer.number ≡ 2 → ⊥) → seen (add_edge g a b w) ≡ run_told NoNode 0 (rows_of g) (add_edge (rows_of g) a b w)
+  pub add_edge_so : ((add_edge g a b w).answer.number ≡ 2 → ⊥) → seen (add_edge g a b w) ≡ run_told NoNode 0 (rows_of g) (Rust.add_edge (rows_of g) a b w)
   add_edge_so n = add_edge_lem g a b w f (has_room n)
 
   abbrev rewritten : ℕ → Out ℕ Net
@@ -158,8 +159,8 @@ module _ (g : Net) (a b w : ℕ) (f : fits g ≡ true) where
   -- what an update does with what is found
   abbrev updated_by : Option ℕ → Run (ℕ × Graph)
   updated_by found =
-      on_option found (add_edge (rows_of g) a b w) (λ ix.
-      on_option (edge_weight_mut (rows_of g) ix w) (add_edge (rows_of g) a b w) (λ g'. returns (ix, g')))
+      on_option found (Rust.add_edge (rows_of g) a b w) (λ ix.
+      on_option (edge_weight_mut (rows_of g) ix w) (Rust.add_edge (rows_of g) a b w) (λ g'. returns (ix, g')))
 
   hit : (e : ℕ) → e < g.m → seen (rewritten e) ≡ run_told NoNode 0 (rows_of g) (updated_by (some e))
   hit e l = rw (edge-written g f e w l)
@@ -178,8 +179,8 @@ module _ (g : Net) (a b w : ℕ) (f : fits g ≡ true) where
   unfolding sought_from
   sought-is = refl
 
-  pub update_edge_lem : ((update_edge g a b w).answer.number ≡ 2 → ⊥) → seen (update_edge g a b w) ≡ run_told NoNode 0 (rows_of g) (update_edge (rows_of g) a b w)
-  unfolding update_edge update_edge
+  pub update_edge_lem : ((update_edge g a b w).answer.number ≡ 2 → ⊥) → seen (update_edge g a b w) ≡ run_told NoNode 0 (rows_of g) (Rust.update_edge (rows_of g) a b w)
+  unfolding update_edge Rust.update_edge
   update_edge_lem =
       elim (dec_lt a g.n) [
         | yes l ↦ rw (find-run g a b, f, lt-ltb a g.n l)
@@ -191,8 +192,8 @@ module _ (g : Net) (a b w : ℕ) (f : fits g ≡ true) where
       ]
 
   -- an add has no loop, and an update of a sound network ends its search
-  add_ends : add_edge (rows_of g) a b w ≡ endless → ⊥
-  unfolding add_edge
+  add_ends : Rust.add_edge (rows_of g) a b w ≡ endless → ⊥
+  unfolding Rust.add_edge
   add_ends h = go (not (eqb (as_u32 (length (rows_of g).edges)) END)) (index_twice (rows_of g).nodes a b) _ _ h
     where
       go : (c : Bool) (p : Pair Node) (one : Node → ℕ × Graph) (both : Node → Node → ℕ × Graph)
@@ -206,12 +207,12 @@ module _ (g : Net) (a b w : ℕ) (f : fits g ≡ true) where
   updated_ends none h = add_ends h
   updated_ends (some ix) h = go (edge_weight_mut (rows_of g) ix w) h
     where
-      go : (r : Option Graph) → on_option r (add_edge (rows_of g) a b w) (λ g'. returns (ix, g')) ≡ endless → ⊥
+      go : (r : Option Graph) → on_option r (Rust.add_edge (rows_of g) a b w) (λ g'. returns (ix, g')) ≡ endless → ⊥
       go none h = add_ends h
       go (some g') h = let z : ◌≡◌ {A = ℕ} 0 1 = cc in omega arith
 
-  pub update_ends : (ls : ℕ → ℕ → List ℕ) → Sound g ls → update_edge (rows_of g) a b w ≡ endless → ⊥
-  unfolding update_edge
+  pub update_ends : (ls : ℕ → ℕ → List ℕ) → Sound g ls → Rust.update_edge (rows_of g) a b w ≡ endless → ⊥
+  unfolding Rust.update_edge
   update_ends ls S h =
       let found = find-edge g ls f S a b in
       updated_ends found.0 (rw found.1 at h)

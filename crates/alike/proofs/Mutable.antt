@@ -24,7 +24,8 @@ use Rattle.walks.specs.Walks.{edges_mut}
 use Rattle.sound.specs.Sound.{Sound, lists}
 use Rattle.sound.proofs.Exactly.{small, lists_are}
 use Rattle.original.specs.Rust.{first_edge, next_edge}
-use Rattle.original.specs.Iterators.{muts, next_mut, edges_mut}
+use Rattle.original.specs.Iterators.{muts, next_mut}
+use Rattle.original.specs.Iterators as Iterators
 use Rattle.alike.specs.Same.{node_at, edge_at, rows_of, Ends}
 use Rattle.alike.proofs.Vectors.{got, got_past}
 use Rattle.alike.proofs.Cells.{edge-got}
@@ -65,15 +66,15 @@ module _ (g : Net) (small : g.m ≤ END) where
       (muts (link_option (link_at g 1 (After y))) o, rw (c.0, ne_eqb y END (omega arith), edge-got g y c.1, next_is y Incoming c.1), incoming_given ys (After y) o zs c.2 G)
 
 module _ (g : Net) (ls : ℕ → ℕ → List ℕ) (f : fits g ≡ true) (S : Sound g ls) (a : ℕ) where
-  pub edges_mut_lem : (table : List ℕ) → Ends (edges_mut (rows_of g) a) (λ rows. edges_mut g a table ≡ give rows table)
-  unfolding edges_mut edges_mut next_mut
+  pub edges_mut_lem : (table : List ℕ) → Ends (Iterators.edges_mut (rows_of g) a) (λ rows. edges_mut g a table ≡ give rows table)
+  unfolding edges_mut Iterators.edges_mut next_mut
   edges_mut_lem table =
       let s = small g f in
       let ours = give (picks g 1 Every a ++ picks g 0 Every a) table in
       elim (dec_lt a g.n) [
         | yes l ↦
-            (let c = S.all_End 0 a (omega arith) l in
-            let d = S.all_End 1 a (omega arith) l in (
+            (let c = S.all_end 0 a (omega arith) l in
+            let d = S.all_end 1 a (omega arith) l in (
               ls 1 a ++ ls 0 a,
               rw (first_is g s a Incoming l, first_is g s a Outgoing l)
                   (collected_all g (next_mut (rows_of g)) (muts (link_option (link_at g 1 (Head a))) (link_option (link_at g 0 (Head a)))) (ls 1 a ++ ls 0 a)

@@ -101,8 +101,8 @@ module _ {A : Type 0} (items : Items A) (g : Net) (ls : ℕ → ℕ → List ℕ
         length-map (ls 0 a) o,
         length-map (filter p (ls 1 a)) i,
         filter-fewer p (ls 1 a),
-        chain_length (link_at g 0) g.m (small g f) (Head a) (ls 0 a) (S.all_End 0 a (omega arith) l),
-        chain_length (link_at g 1) g.m (small g f) (Head a) (ls 1 a) (S.all_End 1 a (omega arith) l),
+        chain_length (link_at g 0) g.m (small g f) (Head a) (ls 0 a) (S.all_end 0 a (omega arith) l),
+        chain_length (link_at g 1) g.m (small g f) (Head a) (ls 1 a) (S.all_end 1 a (omega arith) l),
       )
 
   pub gives_all : a < g.n → Gives (next_around items) (around_of (rows_of g) a) all
@@ -110,9 +110,9 @@ module _ {A : Type 0} (items : Items A) (g : Net) (ls : ℕ → ℕ → List ℕ
   gives_all l =
       let s = small g f in
       let zs = map (incoming items g s a) (filter (other items g s a) (ls 1 a)) in
-      let c = S.all_End 1 a (omega arith) l in
+      let c = S.all_end 1 a (omega arith) l in
       rw (got g.n (node_at g) a l)
-      (outgoing_all items g s a (ls 0 a) (Head a) (link_at g 1 (Head a)) zs (S.all_End 0 a (omega arith) l)
+      (outgoing_all items g s a (ls 0 a) (Head a) (link_at g 1 (Head a)) zs (S.all_end 0 a (omega arith) l)
       (same_first (next_incoming items g.m) (next_around items) (at items g s a END (link_at g 1 (Head a))) zs (alone items g s a (link_at g 1 (Head a)))
       (incoming_first items g s a (ls 1 a) g.m (Head a) c (chain_length (link_at g 1) g.m s (Head a) (ls 1 a) c))))
 

@@ -27,10 +27,9 @@ use Rattle.rows.specs.Calls.{add_node, all_edge_weights, clear, clear_edges}
 use Rattle.sound.proofs.Kept.{fit_of, first_cell, second_cell, other_cell}
 use Rattle.original.specs.Std.{on_option, ◌!◌, push}
 use Rattle.original.specs.Rust.{Node, Edge, graph, node_with_next, edge_weighing}
-use Rattle.original.specs.Rust.{node_weight, edge_weight, edge_weight_mut, edge_endpoints, first_edge, next_edge}
-use Rattle.original.specs.Rust.{add_node, clear_edges, index_mut_node, index_mut_edge}
+use Rattle.original.specs.Rust.{index_mut_node, index_mut_edge}
 use Rattle.original.specs.Rust as Rust
-use Rattle.original.specs.Iterators.{all_edge_weights}
+use Rattle.original.specs.Iterators as Iterators
 use Rattle.alike.specs.Same.{node_at, edge_at, rows_below, rows_of, option_told, run_told, valueless, seen}
 use Rattle.alike.proofs.Cells.{edge_got_past, as_u32, not_end, node-is, edge-is}
 use Rattle.alike.proofs.Vectors.{length-rows, got, got_past, alike, set_is, map_rows}
@@ -54,24 +53,24 @@ taken {A} d xs (suc n) h = more xs n h ∙ ap (λ (ys : List A). push ys (get_or
     more (x ∷ xs) (suc n) h = ap (λ (ys : List A). x ∷ ys) (more xs n (le_of_suc-le-suc h))
 
 module _ (g : Net) (f : fits g ≡ true) where
-  pub node-weight : (a : ℕ) → node_weight g a ≡ option_told NoNode (pos 0) (node_weight (rows_of g) a)
-  unfolding node_weight node_weight rows_of
+  pub node-weight : (a : ℕ) → node_weight g a ≡ option_told NoNode (pos 0) (Rust.node_weight (rows_of g) a)
+  unfolding node_weight Rust.node_weight rows_of
   node-weight a =
       elim (dec_lt a g.n) [
         | yes l ↦ rw (f, lt-ltb a g.n l, got g.n (node_at g) a l)
         | no l ↦ rw (f, le-ltb a g.n (omega arith), got_past g.n (node_at g) a (omega arith))
       ]
 
-  pub edge-weight : (e : ℕ) → edge_weight g e ≡ option_told NoEdge 0 (edge_weight (rows_of g) e)
-  unfolding edge_weight edge_weight rows_of
+  pub edge-weight : (e : ℕ) → edge_weight g e ≡ option_told NoEdge 0 (Rust.edge_weight (rows_of g) e)
+  unfolding edge_weight Rust.edge_weight rows_of
   edge-weight e =
       elim (dec_lt e g.m) [
         | yes l ↦ rw (f, lt-ltb e g.m l, got g.m (edge_at g) e l)
         | no l ↦ rw (f, le-ltb e g.m (omega arith), got_past g.m (edge_at g) e (omega arith))
       ]
 
-  pub edge_endpoints_lem : (e : ℕ) → edge_endpoints g e ≡ option_told NoEdge (0, 0) (edge_endpoints (rows_of g) e)
-  unfolding edge_endpoints edge_endpoints rows_of
+  pub edge_endpoints_lem : (e : ℕ) → edge_endpoints g e ≡ option_told NoEdge (0, 0) (Rust.edge_endpoints (rows_of g) e)
+  unfolding edge_endpoints Rust.edge_endpoints rows_of
   edge_endpoints_lem e =
       elim (dec_lt e g.m) [
         | yes l ↦ rw (f, lt-ltb e g.m l, got g.m (edge_at g) e l)
@@ -79,8 +78,8 @@ module _ (g : Net) (f : fits g ≡ true) where
       ]
 
   -- 3 where the node is missing, 5 where the link is `END`
-  pub first_edge_lem : (a : ℕ) (d : EdgeDirection) → first_edge g a d ≡ option_told (cond (ltb a g.n) Nothing NoNode) 0 (first_edge (rows_of g) a d)
-  unfolding first_edge first_edge rows_of
+  pub first_edge_lem : (a : ℕ) (d : EdgeDirection) → first_edge g a d ≡ option_told (cond (ltb a g.n) Nothing NoNode) 0 (Rust.first_edge (rows_of g) a d)
+  unfolding first_edge Rust.first_edge rows_of
   first_edge_lem a d =
       elim (dec_lt a g.n) [
         | yes l ↦ rw (f, lt-ltb a g.n l, got g.n (node_at g) a l) (head-told d)
@@ -92,8 +91,8 @@ module _ (g : Net) (f : fits g ≡ true) where
       head-told Outgoing = link_told_lem (get_or g.heads (node_cell a 0) 0)
       head-told Incoming = link_told_lem (get_or g.heads (node_cell a 1) 0)
 
-  pub next_edge_lem : (e : ℕ) (d : EdgeDirection) → next_edge g e d ≡ option_told (cond (ltb e g.m) Nothing NoEdge) 0 (next_edge (rows_of g) e d)
-  unfolding next_edge next_edge rows_of
+  pub next_edge_lem : (e : ℕ) (d : EdgeDirection) → next_edge g e d ≡ option_told (cond (ltb e g.m) Nothing NoEdge) 0 (Rust.next_edge (rows_of g) e d)
+  unfolding next_edge Rust.next_edge rows_of
   next_edge_lem e d =
       elim (dec_lt e g.m) [
         | yes l ↦ rw (f, lt-ltb e g.m l, got g.m (edge_at g) e l) (next_told d)
@@ -128,13 +127,13 @@ module _ (g : Net) (f : fits g ≡ true) where
       (edge-is (get_or-set_same g.registers e w 0 (omega arith)) refl refl refl refl)
       (λ x h d. edge-is (get_or-set_other g.registers e x w 0 d) refl refl refl refl)
 
-  pub edge-written : (e w : ℕ) → e < g.m → edge_weight_mut (rows_of g) e w ≡ some (rows_of (with_edges g (set g.registers e w) g.links g.ends))
-  unfolding edge_weight_mut rows_of
+  pub edge-written : (e w : ℕ) → e < g.m → Rust.edge_weight_mut (rows_of g) e w ≡ some (rows_of (with_edges g (set g.registers e w) g.links g.ends))
+  unfolding Rust.edge_weight_mut rows_of
   edge-written e w l = rw (got g.m (edge_at g) e l) (ap (λ (edges : List Edge). some (graph (rows_below g.n (node_at g)) edges)) (reweighed e w l))
 
   pub edge_weight_mut : (e w : ℕ)
-      → seen (set_edge_weight g e w) ≡ on_option (edge_weight_mut (rows_of g) e w) (out (refused NoEdge tt) (rows_of g)) (λ rows. out (done tt) rows)
-  unfolding set_edge_weight edge_weight_mut
+      → seen (set_edge_weight g e w) ≡ on_option (Rust.edge_weight_mut (rows_of g) e w) (out (refused NoEdge tt) (rows_of g)) (λ rows. out (done tt) rows)
+  unfolding set_edge_weight Rust.edge_weight_mut
   edge_weight_mut e w =
       elim (dec_lt e g.m) [
         | yes l ↦ rw (f, lt-ltb e g.m l, edge-written e w l)
@@ -151,8 +150,8 @@ module _ (g : Net) (f : fits g ≡ true) where
         | no l ↦ rw (f, le-ltb e g.m (omega arith), got_past g.m (edge_at g) e (omega arith))
       ]
 
-  node-added : (w : ℤ) → g.n < length g.weights → seen (add_node g w) ≡ run_told Full 0 (rows_of g) (add_node (rows_of g) w)
-  unfolding add_node add_node rows_of with_node
+  node-added : (w : ℤ) → g.n < length g.weights → seen (add_node g w) ≡ run_told Full 0 (rows_of g) (Rust.add_node (rows_of g) w)
+  unfolding add_node Rust.add_node rows_of with_node
   node-added w room =
       let t = fit_of g f in
       let i = node_cell g.n 0 in
@@ -171,7 +170,7 @@ module _ (g : Net) (f : fits g ≡ true) where
       (second_cell g.heads i j END END apart (omega arith))))
 
   -- unless it is refused for want of a row
-  pub add_node_lem : (w : ℤ) → ((add_node g w).answer.number ≡ 2 → ⊥) → seen (add_node g w) ≡ run_told Full 0 (rows_of g) (add_node (rows_of g) w)
+  pub add_node_lem : (w : ℤ) → ((add_node g w).answer.number ≡ 2 → ⊥) → seen (add_node g w) ≡ run_told Full 0 (rows_of g) (Rust.add_node (rows_of g) w)
   unfolding add_node
   add_node_lem w n =
       elim (dec_lt g.n (length g.weights)) [
@@ -179,8 +178,8 @@ module _ (g : Net) (f : fits g ≡ true) where
         | no l ↦ absurd (n (rw (f, le-ltb g.n (length g.weights) (omega arith))))
       ]
 
-  pub all_edge_weights_lem : (table : List ℕ) → all_edge_weights g table ≡ give (all_edge_weights (rows_of g)) table
-  unfolding all_edge_weights all_edge_weights rows_of
+  pub all_edge_weights_lem : (table : List ℕ) → all_edge_weights g table ≡ give (Iterators.all_edge_weights (rows_of g)) table
+  unfolding all_edge_weights Iterators.all_edge_weights rows_of
   all_edge_weights_lem table =
       let t = fit_of g f in
       rw (f, map_rows (λ (edge : Edge). edge.weight) g.m (edge_at g), taken 0 g.registers g.m (omega arith))
@@ -189,8 +188,8 @@ module _ (g : Net) (f : fits g ≡ true) where
   unfolding clear Rust.clear rows_of vacant_nodes vacant_edges
   clear-all = rw f
 
-  pub clear-edges : seen (clear_edges g) ≡ out (done tt) (clear_edges (rows_of g))
-  unfolding clear_edges clear_edges rows_of vacant_edges
+  pub clear-edges : seen (clear_edges g) ≡ out (done tt) (Rust.clear_edges (rows_of g))
+  unfolding clear_edges Rust.clear_edges rows_of vacant_edges
   clear-edges =
       let t = fit_of g f in
       rw (f, map_rows (λ (node : Node). node_with_next node (END, END)) g.n (node_at g))

@@ -37,7 +37,8 @@ use Rattle.removal.proofs.EdgeOuts.{leader, served, all, cut, cut_else, cut_fits
 use Rattle.links.proofs.Hits.{place_kept}
 use Rattle.removal.proofs.Members.{pos-below}
 use Rattle.original.specs.Std.{returns, ◌!◌}
-use Rattle.original.specs.Rust.{Edge, graph, change_edge_links, remove_edge, remove_edge_adjust_indices}
+use Rattle.original.specs.Rust.{Edge, graph, change_edge_links, remove_edge_adjust_indices}
+use Rattle.original.specs.Rust as Rust
 use Rattle.alike.specs.Same.{node_at, edge_at, rows_below, rows_of, option_told, Ends}
 use Rattle.alike.proofs.Vectors.{length-rows, got, got_past, alike, swapped}
 use Rattle.alike.proofs.Cells.{edge-got, edge_got_past, as_u32, edge-is, copied}
@@ -284,8 +285,8 @@ module _ (g : Net) (ls : ℕ → ℕ → List ℕ) (e : ℕ) (f : fits g ≡ tru
         (λ k h. spot_apart l l (Head (c k)) (xs k) (has k h) (not_after k l) (λ i. refl))
         ∙ ap (λ (o : Gone). rows_of o.after) (sym (moved-is g ls e f S lt q)))
 
-  pub edge-taken : remove_edge (rows_of g) e ≡ returns (some (get_or g.registers e 0), rows_of (taken_out g e).after)
-  unfolding remove_edge
+  pub edge-taken : Rust.remove_edge (rows_of g) e ≡ returns (some (get_or g.registers e 0), rows_of (taken_out g e).after)
+  unfolding Rust.remove_edge
   edge-taken =
       rw (edge-got g e lt, bypassing)
       (elim (ℕ_discrete e l) [
@@ -294,8 +295,8 @@ module _ (g : Net) (ls : ℕ → ℕ → List ℕ) (e : ℕ) (f : fits g ≡ tru
       ])
 
 pub remove-edge : (g : Net) (ls : ℕ → ℕ → List ℕ) (e : ℕ) → fits g ≡ true → Sound g ls
-    → Ends (remove_edge (rows_of g) e) (λ (w, rows). (weight_told (remove_edge g e).answer ≡ option_told NoEdge 0 w) × (rows_of (remove_edge g e).after ≡ rows))
-unfolding remove_edge remove_edge
+    → Ends (Rust.remove_edge (rows_of g) e) (λ (w, rows). (weight_told (remove_edge g e).answer ≡ option_told NoEdge 0 w) × (rows_of (remove_edge g e).after ≡ rows))
+unfolding remove_edge Rust.remove_edge
 remove-edge g ls e f S =
     elim (dec_lt e g.m) [
       | yes l ↦ (

@@ -22,8 +22,8 @@ use Rattle.sound.specs.Sound.{end_at, Sound}
 use Rattle.sound.proofs.Exactly.{small, lists_are}
 use Rattle.stripping.proofs.Others.{filter-both}
 use Rattle.original.specs.Std.{returns}
-use Rattle.original.specs.Iterators.{Items, EdgeReference, neighbor_items, edge_items, weight_items, next_around, next_between, around_of, collected, edge_weights, edges_between}
-use Rattle.original.specs.Iterators as Rust
+use Rattle.original.specs.Iterators.{Items, EdgeReference, neighbor_items, edge_items, weight_items, next_around, next_between, around_of, collected}
+use Rattle.original.specs.Iterators as Iterators
 use Rattle.alike.specs.Same.{rows_of, referred, Ends}
 use Rattle.alike.proofs.Cells.{edge_count}
 use Rattle.alike.proofs.Iterating.{collect_all, sift, sift_fewer, leads, find-all}
@@ -87,8 +87,8 @@ module _ (g : Net) (ls : ℕ → ℕ → List ℕ) (f : fits g ≡ true) (S : So
       rw (
         f,
         lt-ltb a g.n l,
-        chain_ends (link_at g 0) g.m (small g f) (Head a) (ls 0 a) (S.all_End 0 a (omega arith) l),
-        chain_ends (link_at g 1) g.m (small g f) (Head a) (ls 1 a) (S.all_End 1 a (omega arith) l),
+        chain_ends (link_at g 0) g.m (small g f) (Head a) (ls 0 a) (S.all_end 0 a (omega arith) l),
+        chain_ends (link_at g 1) g.m (small g f) (Head a) (ls 1 a) (S.all_end 1 a (omega arith) l),
       )
 
   pub walked_none : {T : Type 0} (table : T) (given : Out ℕ T) → g.n ≤ a → walked g a table given ≡ out (done 0) table
@@ -109,16 +109,16 @@ module _ (g : Net) (ls : ℕ → ℕ → List ℕ) (f : fits g ≡ true) (S : So
       let q = lists_are g ls f S 1 a (omega arith) l in
       rw (p, q, every (ls 0 a))
 
-  pub neighbors-given : (table : List ℕ) → Ends (Rust.neighbors (rows_of g) a) (λ items. neighbors g a table ≡ give items table)
-  unfolding neighbors Rust.neighbors
+  pub neighbors-given : (table : List ℕ) → Ends (Iterators.neighbors (rows_of g) a) (λ items. neighbors g a table ≡ give items table)
+  unfolding neighbors Iterators.neighbors
   neighbors-given table =
       elim (dec_lt a g.n) [
         | yes l ↦ (all neighbor_items g ls f S a, all_items neighbor_items l, walked_so table (give (around g Far a) table) l ∙ ap (λ xs. give xs table) (around-is Far l))
         | no l ↦ ([], no_items neighbor_items (omega arith), walked_none table (give (around g Far a) table) (omega arith) ∙ sym (give_none table))
       ]
 
-  pub edge-weights : (table : List ℕ) → Ends (edge_weights (rows_of g) a) (λ items. edge_weights g a table ≡ give items table)
-  unfolding edge_weights edge_weights
+  pub edge-weights : (table : List ℕ) → Ends (Iterators.edge_weights (rows_of g) a) (λ items. edge_weights g a table ≡ give items table)
+  unfolding edge_weights Iterators.edge_weights
   edge-weights table =
       elim (dec_lt a g.n) [
         | yes l ↦ (all weight_items g ls f S a, all_items weight_items l, walked_so table (give (around g Weight a) table) l ∙ ap (λ xs. give xs table) (around-is Weight l))
@@ -135,8 +135,8 @@ module _ (g : Net) (ls : ℕ → ℕ → List ℕ) (f : fits g ≡ true) (S : So
   refs_are Far l = around-is Far l ∙ sym (map_both (referred Far) _ _ (ls 0 a) others)
   refs_are Weight l = around-is Weight l ∙ sym (map_both (referred Weight) _ _ (ls 0 a) others)
 
-  pub edges-given : (t : Tables3) → Ends (Rust.edges (rows_of g) a) (λ found. edges g a t ≡ give_three (λ item. map (referred item) found) t)
-  unfolding edges Rust.edges
+  pub edges-given : (t : Tables3) → Ends (Iterators.edges (rows_of g) a) (λ found. edges g a t ≡ give_three (λ item. map (referred item) found) t)
+  unfolding edges Iterators.edges
   edges-given t =
       let ours = give_three (λ item. around g item a) t in
       elim (dec_lt a g.n) [
@@ -158,8 +158,8 @@ module _ (g : Net) (ls : ℕ → ℕ → List ℕ) (f : fits g ≡ true) (S : So
       (ap (λ ys. filter (λ x. eqb (end_at g 1 x) b) (ls 0 a) ++ ys) (sym (filter-both (λ y. eqb (end_at g 0 y) b) (λ y. not (eqb (end_at g 0 y) a)) (ls 1 a)))
       ∙ sym (sift_both (referred Number) (leads b (g.m + g.m)) _ _ (λ x. refl) (λ y. refl) (ls 0 a) others))
 
-  pub edges_between_lem : (b : ℕ) (table : List ℕ) → Ends (edges_between (rows_of g) a b) (λ found. edges_between g a b table ≡ give (map (referred Number) found) table)
-  unfolding edges_between edges_between
+  pub edges_between_lem : (b : ℕ) (table : List ℕ) → Ends (Iterators.edges_between (rows_of g) a b) (λ found. edges_between g a b table ≡ give (map (referred Number) found) table)
+  unfolding edges_between Iterators.edges_between
   edges_between_lem b table =
       let ours = give (picks g 0 (To (record { 0 = b })) a ++ picks g 1 (ToNot (record { 0 = b }) (record { 0 = a })) a) table in
       let next = next_between (suc (g.m + g.m)) b in

@@ -2,168 +2,178 @@
 use Prim.{tt}
 use mathlib.Core.Path.{refl, ap}
 use Rattle.printing.proofs as printing
+use Rattle.printing.specs.contracts as printing_contracts
 use Rattle.text.proofs as text
+use Rattle.text.specs.contracts as text_contracts
 use Rattle.reply.proofs as reply
+use Rattle.reply.specs.contracts as reply_contracts
 use Rattle.commands.proofs as commands
+use Rattle.commands.specs.contracts as commands_contracts
 use Rattle.letters.proofs as letters
+use Rattle.letters.specs.contracts as letters_contracts
 use Rattle.dispatch.proofs as dispatch
+use Rattle.dispatch.specs.contracts as dispatch_contracts
 use Rattle.obeying.proofs as obeying
+use Rattle.obeying.specs.contracts as obeying_contracts
 use Rattle.script.proofs as script
+use Rattle.script.specs.contracts as script_contracts
 use Rattle.telling.proofs as telling
+use Rattle.telling.specs.contracts as telling_contracts
 use Rattle.printer.proofs as printer
+use Rattle.printer.specs.contracts as printer_contracts
 use Rattle.demands.specs.Settles.{Settles, SettlesAll}
 use Rattle.demands.proofs.Alike.{alike, answers-alike, all_columns, node_columns, edge_columns, no_columns}
 
-pub printing_width : Settles printing.parts.width.ended printing.parts.width.Reads.Post
+pub printing_width : Settles printing_contracts.parts.width.ended printing.parts.width.Reads.Post
 printing_width κs given x y p q = answers-alike p.is q.is
 
-pub printing_leading : Settles printing.parts.leading.ended printing.parts.leading.Reads.Post
+pub printing_leading : Settles printing_contracts.parts.leading.ended printing.parts.leading.Reads.Post
 printing_leading κs given x y p q = answers-alike p q
 
-pub printing_glyph : Settles printing.parts.glyph.ended printing.parts.glyph.Reads.Post
+pub printing_glyph : Settles printing_contracts.parts.glyph.ended printing.parts.glyph.Reads.Post
 printing_glyph κs given x y p q = answers-alike p q
 
-pub printing_write_number : Settles printing.parts.write_number.ended printing.parts.write_number.Reads.Post
+pub printing_write_number : Settles printing_contracts.parts.write_number.ended printing.parts.write_number.Reads.Post
 printing_write_number κs given x y p q = λ i. (alike p.ends_at q.ends_at i, (alike p.bytes_are q.bytes_are i, _))
 
-pub printing_write_byte : Settles printing.parts.write_byte.ended printing.parts.write_byte.Reads.Post
+pub printing_write_byte : Settles printing_contracts.parts.write_byte.ended printing.parts.write_byte.Reads.Post
 printing_write_byte κs given x y p q = λ i. (alike p.ends_at q.ends_at i, (alike p.bytes_are q.bytes_are i, _))
 
-pub printing_signed_width : Settles printing.parts.signed_width.ended printing.parts.signed_width.Reads.Post
+pub printing_signed_width : Settles printing_contracts.parts.signed_width.ended printing.parts.signed_width.Reads.Post
 printing_signed_width κs given x y p q = answers-alike p.is q.is
 
-pub printing_write_signed : Settles printing.parts.write_signed.ended printing.parts.write_signed.Reads.Post
+pub printing_write_signed : Settles printing_contracts.parts.write_signed.ended printing.parts.write_signed.Reads.Post
 printing_write_signed κs given x y p q = λ i. (alike p.ends_at q.ends_at i, (alike p.bytes_are q.bytes_are i, _))
 
-pub printing_write_field : Settles printing.parts.write_field.ended printing.parts.write_field.Reads.Post
+pub printing_write_field : Settles printing_contracts.parts.write_field.ended printing.parts.write_field.Reads.Post
 printing_write_field κs given x y p q = λ i. (alike p.ends_at q.ends_at i, (alike p.bytes_are q.bytes_are i, _))
 
-pub printing_write_signed_field : Settles printing.parts.write_signed_field.ended printing.parts.write_signed_field.Reads.Post
+pub printing_write_signed_field : Settles printing_contracts.parts.write_signed_field.ended printing.parts.write_signed_field.Reads.Post
 printing_write_signed_field κs given x y p q = λ i. (alike p.ends_at q.ends_at i, (alike p.bytes_are q.bytes_are i, _))
 
-pub printing_fields_width : Settles printing.parts.fields_width.ended printing.parts.fields_width.Reads.Post
+pub printing_fields_width : Settles printing_contracts.parts.fields_width.ended printing.parts.fields_width.Reads.Post
 printing_fields_width κs given x y p q = answers-alike p.is q.is
 
-pub printing_write_fields : Settles printing.parts.write_fields.ended printing.parts.write_fields.Reads.Post
+pub printing_write_fields : Settles printing_contracts.parts.write_fields.ended printing.parts.write_fields.Reads.Post
 printing_write_fields κs given x y p q = λ i. (alike p.ends_at q.ends_at i, (alike p.bytes_are q.bytes_are i, _))
 
-pub text_read_number : Settles text.parts.read_number.ended text.parts.read_number.Reads.Post
+pub text_read_number : Settles text_contracts.parts.read_number.ended text.parts.read_number.Reads.Post
 text_read_number κs given x y p q = answers-alike p q
 
-pub text_read_weight : Settles text.parts.read_weight.ended text.parts.read_weight.Reads.Post
+pub text_read_weight : Settles text_contracts.parts.read_weight.ended text.parts.read_weight.Reads.Post
 text_read_weight κs given x y p q = answers-alike p q
 
-pub text_read_operands : Settles text.parts.read_operands.ended text.parts.read_operands.Reads.Post
+pub text_read_operands : Settles text_contracts.parts.read_operands.ended text.parts.read_operands.Reads.Post
 text_read_operands κs given x y p q = answers-alike p q
 
-pub text_read_weight_operand : Settles text.parts.read_weight_operand.ended text.parts.read_weight_operand.Reads.Post
+pub text_read_weight_operand : Settles text_contracts.parts.read_weight_operand.ended text.parts.read_weight_operand.Reads.Post
 text_read_weight_operand κs given x y p q = answers-alike p q
 
-pub text_line_end : Settles text.parts.line_end.ended text.parts.line_end.Reads.Post
+pub text_line_end : Settles text_contracts.parts.line_end.ended text.parts.line_end.Reads.Post
 text_line_end κs given x y p q = answers-alike p.is q.is
 
-pub reply_bare : SettlesAll reply.Reply.bare.ended reply.Reply.bare.Reads.Pre reply.Reply.bare.Reads.Post
+pub reply_bare : SettlesAll reply_contracts.Reply.bare.ended reply.Reply.bare.Reads.Pre reply.Reply.bare.Reads.Post
 reply_bare = (λ κs given. tt, λ κs given x y p q. answers-alike p q)
 
-pub reply_line_width : Settles reply.parts.line_width.ended reply.parts.line_width.Reads.Post
+pub reply_line_width : Settles reply_contracts.parts.line_width.ended reply.parts.line_width.Reads.Post
 reply_line_width κs given x y p q = answers-alike p.is q.is
 
-pub reply_write_line : Settles reply.parts.write_line.ended reply.parts.write_line.Reads.Post
+pub reply_write_line : Settles reply_contracts.parts.write_line.ended reply.parts.write_line.Reads.Post
 reply_write_line κs given x y p q = λ i. (alike p.ends_at q.ends_at i, (alike p.bytes_are q.bytes_are i, _))
 
-pub reply_answer : Settles reply.parts.answer.ended reply.parts.answer.Reads.Post
+pub reply_answer : Settles reply_contracts.parts.answer.ended reply.parts.answer.Reads.Post
 reply_answer κs given x y p q = ap (λ o. (o.0, (o.1, _))) (alike p q)
 
-pub add_node_line_lem : SettlesAll commands.add_node_line.ended commands.add_node_line.Reads.Pre commands.add_node_line.Reads.Post
+pub add_node_line_lem : SettlesAll commands_contracts.add_node_line.ended commands.add_node_line.Reads.Pre commands.add_node_line.Reads.Post
 add_node_line_lem = (λ κs given. tt, λ κs given x y p q. ap (λ o. (o.reply, node_columns o.after _)) (alike p q))
 
-pub add_edge_line_lem : SettlesAll commands.add_edge_line.ended commands.add_edge_line.Reads.Pre commands.add_edge_line.Reads.Post
+pub add_edge_line_lem : SettlesAll commands_contracts.add_edge_line.ended commands.add_edge_line.Reads.Pre commands.add_edge_line.Reads.Post
 add_edge_line_lem = (λ κs given. tt, λ κs given x y p q. ap (λ o. (o.reply, edge_columns o.after _)) (alike p q))
 
-pub update_edge_line_lem : SettlesAll commands.update_edge_line.ended commands.update_edge_line.Reads.Pre commands.update_edge_line.Reads.Post
+pub update_edge_line_lem : SettlesAll commands_contracts.update_edge_line.ended commands.update_edge_line.Reads.Pre commands.update_edge_line.Reads.Post
 update_edge_line_lem = (λ κs given. tt, λ κs given x y p q. ap (λ o. (o.reply, edge_columns o.after _)) (alike p q))
 
-pub find_edge_line_lem : SettlesAll commands.find_edge_line.ended commands.find_edge_line.Reads.Pre commands.find_edge_line.Reads.Post
+pub find_edge_line_lem : SettlesAll commands_contracts.find_edge_line.ended commands.find_edge_line.Reads.Pre commands.find_edge_line.Reads.Post
 find_edge_line_lem = (λ κs given. tt, λ κs given x y p q. answers-alike p q)
 
-pub remove_edge_line_lem : SettlesAll commands.remove_edge_line.ended commands.remove_edge_line.Reads.Pre commands.remove_edge_line.Reads.Post
+pub remove_edge_line_lem : SettlesAll commands_contracts.remove_edge_line.ended commands.remove_edge_line.Reads.Pre commands.remove_edge_line.Reads.Post
 remove_edge_line_lem = (λ κs given. tt, λ κs given x y p q. ap (λ o. (o.reply, edge_columns o.after _)) (alike p q))
 
-pub remove_node_line_lem : SettlesAll commands.remove_node_line.ended commands.remove_node_line.Reads.Pre commands.remove_node_line.Reads.Post
+pub remove_node_line_lem : SettlesAll commands_contracts.remove_node_line.ended commands.remove_node_line.Reads.Pre commands.remove_node_line.Reads.Post
 remove_node_line_lem = (λ κs given. tt, λ κs given x y p q. ap (λ o. (o.reply, all_columns o.after.0 (_, (o.after.1, _)))) (alike p q))
 
-pub neighbors_line_lem : SettlesAll commands.neighbors_line.ended commands.neighbors_line.Reads.Pre commands.neighbors_line.Reads.Post
+pub neighbors_line_lem : SettlesAll commands_contracts.neighbors_line.ended commands.neighbors_line.Reads.Pre commands.neighbors_line.Reads.Post
 neighbors_line_lem = (λ κs given. tt, λ κs given x y p q. ap (λ o. (o.reply, no_columns (_, (o.after, _)))) (alike p q))
 
-pub edges_line_lem : SettlesAll commands.edges_line.ended commands.edges_line.Reads.Pre commands.edges_line.Reads.Post
+pub edges_line_lem : SettlesAll commands_contracts.edges_line.ended commands.edges_line.Reads.Pre commands.edges_line.Reads.Post
 edges_line_lem = (λ κs given. tt, λ κs given x y p q. ap (λ o. (o.reply, no_columns (_, (o.after.numbers, (o.after.sources, (o.after.targets, _)))))) (alike p q))
 
-pub edges_mut_line_lem : SettlesAll commands.edges_mut_line.ended commands.edges_mut_line.Reads.Pre commands.edges_mut_line.Reads.Post
+pub edges_mut_line_lem : SettlesAll commands_contracts.edges_mut_line.ended commands.edges_mut_line.Reads.Pre commands.edges_mut_line.Reads.Post
 edges_mut_line_lem = (λ κs given. tt, λ κs given x y p q. ap (λ o. (o.reply, no_columns (_, (o.after, _)))) (alike p q))
 
-pub edges_between_line_lem : SettlesAll commands.edges_between_line.ended commands.edges_between_line.Reads.Pre commands.edges_between_line.Reads.Post
+pub edges_between_line_lem : SettlesAll commands_contracts.edges_between_line.ended commands.edges_between_line.Reads.Pre commands.edges_between_line.Reads.Post
 edges_between_line_lem = (λ κs given. tt, λ κs given x y p q. ap (λ o. (o.reply, no_columns (_, (_, (o.after, _))))) (alike p q))
 
-pub sum_around_line_lem : SettlesAll commands.sum_around_line.ended commands.sum_around_line.Reads.Pre commands.sum_around_line.Reads.Post
+pub sum_around_line_lem : SettlesAll commands_contracts.sum_around_line.ended commands.sum_around_line.Reads.Pre commands.sum_around_line.Reads.Post
 sum_around_line_lem = (λ κs given. tt, λ κs given x y p q. answers-alike p q)
 
-pub check_line_lem : SettlesAll commands.check_line.ended commands.check_line.Reads.Pre commands.check_line.Reads.Post
+pub check_line_lem : SettlesAll commands_contracts.check_line.ended commands.check_line.Reads.Pre commands.check_line.Reads.Post
 check_line_lem = (λ κs given. tt, λ κs given x y p q. answers-alike p q)
 
-pub clear-edges_line : SettlesAll commands.clear_edges_line.ended commands.clear_edges_line.Reads.Pre commands.clear_edges_line.Reads.Post
+pub clear-edges_line : SettlesAll commands_contracts.clear_edges_line.ended commands.clear_edges_line.Reads.Pre commands.clear_edges_line.Reads.Post
 clear-edges_line = (λ κs given. tt, λ κs given x y p q. ap (λ o. (o.reply, edge_columns o.after _)) (alike p q))
 
-pub clear_line_lem : SettlesAll commands.clear_line.ended commands.clear_line.Reads.Pre commands.clear_line.Reads.Post
+pub clear_line_lem : SettlesAll commands_contracts.clear_line.ended commands.clear_line.Reads.Pre commands.clear_line.Reads.Post
 clear_line_lem = (λ κs given. tt, λ κs given x y p q. ap (λ o. (o.reply, all_columns o.after _)) (alike p q))
 
-pub commands_refused : Settles commands.parts.refused.ended commands.parts.refused.Reads.Post
+pub commands_refused : Settles commands_contracts.parts.refused.ended commands.parts.refused.Reads.Post
 commands_refused κs given x y p q = answers-alike p q
 
-pub commands_value : Settles commands.parts.value.ended commands.parts.value.Reads.Post
+pub commands_value : Settles commands_contracts.parts.value.ended commands.parts.value.Reads.Post
 commands_value κs given x y p q = answers-alike p q
 
-pub commands_node_reply : Settles commands.parts.node_reply.ended commands.parts.node_reply.Reads.Post
+pub commands_node_reply : Settles commands_contracts.parts.node_reply.ended commands.parts.node_reply.Reads.Post
 commands_node_reply κs given x y p q = answers-alike p q
 
-pub commands_edge_reply : Settles commands.parts.edge_reply.ended commands.parts.edge_reply.Reads.Post
+pub commands_edge_reply : Settles commands_contracts.parts.edge_reply.ended commands.parts.edge_reply.Reads.Post
 commands_edge_reply κs given x y p q = answers-alike p q
 
-pub commands_changed_reply : Settles commands.parts.changed_reply.ended commands.parts.changed_reply.Reads.Post
+pub commands_changed_reply : Settles commands_contracts.parts.changed_reply.ended commands.parts.changed_reply.Reads.Post
 commands_changed_reply κs given x y p q = answers-alike p q
 
-pub commands_items_reply : Settles commands.parts.items_reply.ended commands.parts.items_reply.Reads.Post
+pub commands_items_reply : Settles commands_contracts.parts.items_reply.ended commands.parts.items_reply.Reads.Post
 commands_items_reply κs given x y p q = answers-alike p q
 
-pub commands_sum_reply : Settles commands.parts.sum_reply.ended commands.parts.sum_reply.Reads.Post
+pub commands_sum_reply : Settles commands_contracts.parts.sum_reply.ended commands.parts.sum_reply.Reads.Post
 commands_sum_reply κs given x y p q = answers-alike p q
 
-pub commands_check_reply : Settles commands.parts.check_reply.ended commands.parts.check_reply.Reads.Post
+pub commands_check_reply : Settles commands_contracts.parts.check_reply.ended commands.parts.check_reply.Reads.Post
 commands_check_reply κs given x y p q = answers-alike p q
 
-pub commands_edge_removed_reply : Settles commands.parts.edge_removed_reply.ended commands.parts.edge_removed_reply.Reads.Post
+pub commands_edge_removed_reply : Settles commands_contracts.parts.edge_removed_reply.ended commands.parts.edge_removed_reply.Reads.Post
 commands_edge_removed_reply κs given x y p q = answers-alike p q
 
-pub commands_node_removed_reply : Settles commands.parts.node_removed_reply.ended commands.parts.node_removed_reply.Reads.Post
+pub commands_node_removed_reply : Settles commands_contracts.parts.node_removed_reply.ended commands.parts.node_removed_reply.Reads.Post
 commands_node_removed_reply κs given x y p q = answers-alike p q
 
-pub operands_of_lem : SettlesAll letters.operands_of_lem.ended letters.operands_of_lem.Reads.Pre letters.operands_of_lem.Reads.Post
+pub operands_of_lem : SettlesAll letters_contracts.operands_of_lem.ended letters.operands_of_lem.Reads.Pre letters.operands_of_lem.Reads.Post
 operands_of_lem = (λ κs given. tt, λ κs given x y p q. answers-alike p q)
 
-pub dispatch_command : SettlesAll dispatch.dispatch.ended dispatch.dispatch.Reads.Pre dispatch.dispatch.Reads.Post
+pub dispatch_command : SettlesAll dispatch_contracts.dispatch.ended dispatch.dispatch.Reads.Pre dispatch.dispatch.Reads.Post
 dispatch_command = (
   λ κs given. tt,
   λ κs given x y p q.
       ap (λ o. (o.reply, all_columns o.after.network (o.after.tables.numbers, (o.after.tables.sources, (o.after.tables.targets, _))))) (alike p q),
 )
 
-pub net-run : SettlesAll script.net_run.ended script.net_run.Reads.Pre script.net_run.Reads.Post
+pub net-run : SettlesAll script_contracts.net_run.ended script.net_run.Reads.Pre script.net_run.Reads.Post
 net-run = (λ κs given. tt, λ κs given x y p q. ap (λ o. (o.0, (_, (o.1, _)))) (alike p q))
 
-pub obeying_answer_line : Settles obeying.parts.answer_line.ended obeying.parts.answer_line.Reads.Post
+pub obeying_answer_line : Settles obeying_contracts.parts.answer_line.ended obeying.parts.answer_line.Reads.Post
 obeying_answer_line κs given x y p q =
     ap (λ o. (o.reply, (_, (_, (_, all_columns o.after.network (o.after.tables.numbers, (o.after.tables.sources, (o.after.tables.targets, _)))))))) (alike p q)
 
-pub script_run_lines : Settles script.parts.run_lines.ended script.parts.run_lines.Reads.Post
+pub script_run_lines : Settles script_contracts.parts.run_lines.ended script.parts.run_lines.Reads.Post
 script_run_lines κs given x y p q =
     let s = alike p.state-is q.state-is in
     λ i. (
@@ -171,18 +181,18 @@ script_run_lines κs given x y p q =
       (_, (alike p.output_is q.output_is i, (_, all_columns (s i).network ((s i).tables.numbers, ((s i).tables.sources, ((s i).tables.targets, _)))))),
     )
 
-pub script_limit_of : Settles script.parts.limit_of.ended script.parts.limit_of.Reads.Post
+pub script_limit_of : Settles script_contracts.parts.limit_of.ended script.parts.limit_of.Reads.Post
 script_limit_of κs given x y p q = answers-alike p q
 
-pub script_pack : Settles script.parts.pack.ended script.parts.pack.Reads.Post
+pub script_pack : Settles script_contracts.parts.pack.ended script.parts.pack.Reads.Post
 script_pack κs given x y p q = answers-alike p q
 
-pub telling_write_ending : Settles telling.parts.write_ending.ended telling.parts.write_ending.Reads.Post
+pub telling_write_ending : Settles telling_contracts.parts.write_ending.ended telling.parts.write_ending.Reads.Post
 telling_write_ending κs given x y p q = λ i. (alike p.ends_at q.ends_at i, (alike p.bytes_are q.bytes_are i, _))
 
-pub telling_tell_run : Settles telling.parts.tell_run.ended telling.parts.tell_run.Reads.Post
+pub telling_tell_run : Settles telling_contracts.parts.tell_run.ended telling.parts.tell_run.Reads.Post
 telling_tell_run κs given x y p q = λ i. (alike p.writes.ends_at q.writes.ends_at i, (_, (alike p.writes.bytes_are q.writes.bytes_are i, _)))
 
 -- nothing is answered, and nothing is lent: which bytes C is given no contract can say
-pub printer_print_number : SettlesAll printer.print_number.ended printer.print_number.Reads.Pre printer.print_number.Reads.Post
+pub printer_print_number : SettlesAll printer_contracts.print_number.ended printer.print_number.Reads.Pre printer.print_number.Reads.Post
 printer_print_number = (λ κs given. tt, λ κs given x y p q. refl)
