@@ -85,7 +85,7 @@ answered_0 g h =
 
 -- the lists of a sound network are those that a walk meets
 pub lists_are : (g : Net) (ls : ℕ → ℕ → List ℕ) → fits g ≡ true → Sound g ls → (k a : ℕ) → k < 2 → a < g.n → lists g k a ≡ ls k a
-lists_are g ls f S k a h l = chain_walked (link_at g k) g.m (small g f) (Head a) (ls k a) (S.all_End k a h l)
+lists_are g ls f S k a h l = chain_walked (link_at g k) g.m (small g f) (Head a) (ls k a) (S.all_end k a h l)
 
 pub as_walked : (g : Net) (ls : ℕ → ℕ → List ℕ) → fits g ≡ true → Sound g ls → Sound g (lists g)
 as_walked g ls f S = (accepted-sound g (2 * g.m) (sound_accepted g ls f S)).1
