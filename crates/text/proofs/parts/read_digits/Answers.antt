@@ -14,7 +14,7 @@ pub loop-i-preserved : goal.loop-i-preserved
 loop-i-preserved c =
     let r = c.loop-i.invariant.1 in
     let t = sym c.is_digit.ensures ∙ c.if-not-is_digit.false in
-    let n : length c.loop-i.invariant.0 ≤ 9 = omega (arith, c.if-i-at-eq10.false, r.many, r.few) in
+    let n : length c.loop-i.invariant.0 ≤ 9 = omega (arith, r.many, r.few) in
     (_, more c.requires r c.loop-i-test.true t c.digit.ensures n)
 
 pub returns-then-i-at : goal.returns-then-i-at
