@@ -150,7 +150,7 @@ fn networks() -> Vec<(String, Vec<Call>)> {
     let mut all = vec![
         ("nothing".to_string(), vec![]),
         (
-            "networkA".to_string(),
+            "network_a".to_string(),
             vec![
                 AddNode(5),
                 AddNode(-3),
@@ -200,8 +200,8 @@ fn networks() -> Vec<(String, Vec<Call>)> {
             ],
         ),
     ];
-    all.push(("lostHead".to_string(), vec![LOST_HEAD]));
-    all.push(("linkedTwice".to_string(), vec![LINKED_TWICE]));
+    all.push(("lost_head".to_string(), vec![LOST_HEAD]));
+    all.push(("linked_twice".to_string(), vec![LINKED_TWICE]));
     let mut chance = Chance(1);
     for index in 0..MIXED {
         let nodes = 1 + chance.below(4);
@@ -237,12 +237,12 @@ impl Chance {
 fn tried(name: &str, nodes: u32, edges: u32) -> Vec<Call> {
     // On damaged rows only what comes to an end.
     match name {
-        "lostHead" => return vec![RemoveEdge(0), RemoveNode(0)],
-        "linkedTwice" => return vec![RemoveEdge(0)],
+        "lost_head" => return vec![RemoveEdge(0), RemoveNode(0)],
+        "linked_twice" => return vec![RemoveEdge(0)],
         _ => {}
     }
     let mut calls = vec![];
-    if name == "networkA" {
+    if name == "network_a" {
         use EdgeDirection::{Incoming, Outgoing};
         calls.extend([
             AddNode(7),
@@ -290,7 +290,7 @@ fn tried(name: &str, nodes: u32, edges: u32) -> Vec<Call> {
     }
     if !name.starts_with("mixed") {
         // Network A around every node and a missing one, the others around one node.
-        for a in 0..=if name == "networkA" { nodes } else { 0 } {
+        for a in 0..=if name == "network_a" { nodes } else { 0 } {
             calls.extend([
                 Neighbors(a),
                 EdgesOf(a),
@@ -325,7 +325,7 @@ pub fn table() -> String {
         let before = rows(&graph);
         write!(
             text,
-            "abbrev pub {name}Rows : Graph\n{name}Rows = {before}\n\n"
+            "abbrev pub {name}_rows : Graph\n{name}_rows = {before}\n\n"
         )
         .unwrap();
         for call in tried(&name, graph.node_count() as u32, graph.edge_count() as u32) {
@@ -334,7 +334,7 @@ pub fn table() -> String {
             let outcome = match answer {
                 Err(_) => "panics".to_string(),
                 Ok(answer) if rows(&after) == before => {
-                    format!("(returns ({}, {name}Rows))", told(&answer))
+                    format!("(returns ({}, {name}_rows))", told(&answer))
                 }
                 Ok(answer) => format!("(returns ({}, {}))", told(&answer), rows(&after)),
             };
