@@ -288,7 +288,7 @@ drop-freed g ls a f S la =
     let h = with_node g a (node_row g b) in
     let past : (j k x : ℕ) → j < 2 → k < 2 → g.m ≤ x → j ≡ k → In x (lists g j b) → ⊥ =
     λ j k x hj hk l q i.
-    omega (arith, below (link_at g j) g.m (small g f) (Head b) x (ls j b) (S.all_End j b hj (omega arith)) (rw (lists_are g ls f S j b hj (omega arith)) at i)) in
+    omega (arith, below (link_at g j) g.m (small g f) (Head b) x (ls j b) (S.all_end j b hj (omega arith)) (rw (lists_are g ls f S j b hj (omega arith)) at i)) in
     let ends : (k x : ℕ) → k < 2 → g.m ≤ x → cell (ended 1 a (lists g 1 b) (ended 0 a (lists g 0 b) g.ends)) k x ≡ cell g.ends k x =
     λ k x hk l.
     ended_off 1 k a x (lists g 1 b) (ended 0 a (lists g 0 b) g.ends) (omega arith) hk (past 1 k x (omega arith) hk l)

@@ -10,7 +10,7 @@ use lib.ListN.{get_or, set}
 use lib.Seq.{get_or-set_same, get_or-set_other}
 use Rattle.tables.specs.declared.row.Edge.{Edge}
 use Rattle.tables.specs.Net.{Net, fits, node_cell, edge_cell}
-use Rattle.tables.specs.Rows.{node_row, edge_row, vacant_edge, with_edge}
+use Rattle.tables.specs.Rows.{edge_row, vacant_edge, with_edge}
 use Rattle.lists.specs.declared.Spot.{Spot}
 use Rattle.lists.specs.declared.Spot.TheVariants.{Head, After}
 use Rattle.sound.proofs.Kept.{fit_of, first_cell, second_cell, other_cell}

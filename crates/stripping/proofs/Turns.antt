@@ -50,5 +50,5 @@ module _ (g : Net) (ls : ℕ → ℕ → List ℕ) (k a : ℕ) (f : fits g ≡ t
   pub head-out : (link_at g k (Head a) ≡ END → ⊥)
       → (link_at g k (Head a) < g.m) × EdgeOut g ls (link_at g k (Head a)) (taken_out g (link_at g k (Head a)))
   head-out n =
-      let b = head-below (ls k a) (S.all_End k a hk la) n in
+      let b = head-below (ls k a) (S.all_end k a hk la) n in
       (b, taken_out_lem g ls (link_at g k (Head a)) f S b)
