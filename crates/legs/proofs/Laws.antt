@@ -23,7 +23,7 @@ use Rattle.legs.specs.declared.parts.Leg.{Leg}
 use Rattle.legs.specs.declared.parts.Settled.TheVariants as Settled·
 use Rattle.legs.specs.declared.parts.Prepared.{Prepared}
 use Rattle.legs.specs.declared.parts.Prepared.TheVariants as Prepared·
-use Rattle.legs.specs.Legs.{leg_takes, leg_gives, legs_give, leg_ends, legs_told, settled, prepared, least, Tables3, tables3, room_for, edges_told}
+use Rattle.legs.specs.Legs.{leg_takes, leg_gives, legs_give, leg_ends, legs_told, settled, prepared, least, Tables3, tables3, room_for, edges_told, Legs, Ready}
 
 module _ (links ends : List ℕ) (m : ℕ) (leg : Leg) where
   -- a leg takes no more items than its list has rows, and there are at most m
@@ -178,6 +178,12 @@ legs_by registers links ends m item first second table =
     by_tests links ends m first second (length table) given table
     ∙ ap (λ n. tests links m first second (leb n (length table)) given table) (sym (items_length registers links ends m item first second))
 
+-- the same by what the legs' preparation was found to be
+pub told_by : (registers links ends : List ℕ) (m : ℕ) (item : Item) (first second : Leg) (table : List ℕ) {r v : Prepared}
+    → r ≡ prepared links ends m first second (length table) → r ≡ v
+    → by v (written (legs_give registers links ends m item first second) table) table ≡ legs_told registers links ends m item first second table
+told_by registers links ends m item first second table p e = rw (← e, p) (legs_by registers links ends m item first second table)
+
 -- three tables have room where the shortest has it
 leb_least : (n a b : ℕ) → leb n (least a b) ≡ (leb n a && leb n b)
 unfolding least
@@ -220,6 +226,32 @@ edges_by registers links ends m first second t =
     let given = out (done (length (items Number))) (tables3 (onto (items Number) t.numbers) (onto (items Near) t.sources) (onto (items Far) t.targets)) in
     by_tests links ends m first second room given t
     ∙ ap (λ d. tests links m first second d given t) (room_least _ t ∙ ap (λ n. room_for n t) (sym (items_length registers links ends m Number first second)))
+
+pub edges_told_by : (registers links ends : List ℕ) (m : ℕ) (first second : Leg) (t : Tables3) {q l : ℕ} {r v : Prepared}
+    → q ≡ least (length t.sources) (length t.targets) → l ≡ least (length t.numbers) q → r ≡ prepared links ends m first second l → r ≡ v
+    → let items : Item → List ℕ = λ item. legs_give registers links ends m item first second in
+    by v (out (done (length (items Number))) (tables3 (onto (items Number) t.numbers) (onto (items Near) t.sources) (onto (items Far) t.targets))) t
+    ≡ edges_told registers links ends m first second t
+edges_told_by registers links ends m first second t o u p e = rw (← e, p, u, o) (edges_by registers links ends m first second t)
+
+-- both legs may be given to a table that is no shorter than the shortest
+pub shortest : (a b d : ℕ) {q l : ℕ} → q ≡ least b d → l ≡ least a q → (l ≤ a) × (l ≤ b) × (l ≤ d)
+shortest a b d o u =
+    let t = least-below b d in
+    let s = least-below a (least b d) in
+    rw (u, o) (s.0, omega (arith, s.1, t.0), omega (arith, s.1, t.1))
+
+pub ready : {registers links ends : List ℕ} {m : ℕ} {first second : Leg} {rows others room items : ℕ} {r : Prepared}
+    → Legs (length registers) (length links) (length ends) m first second → r ≡ prepared links ends m first second room → r ≡ Prepared·.Rows rows others
+    → room ≤ items → Ready registers links ends m first rows second others items
+ready l p e h =
+    let f = both-fit _ _ _ _ _ _ (sym p ∙ e) in
+    record { legs = l; first_rows = f.first_rows; second_rows = f.second_rows; room = omega (arith, f.holds, h) }
+
+pub as_many : (registers links ends : List ℕ) (m : ℕ) (item other : Item) (first second : Leg)
+    → length (legs_give registers links ends m item first second) ≡ length (legs_give registers links ends m other first second)
+as_many registers links ends m item other first second =
+    items_length registers links ends m item first second ∙ sym (items_length registers links ends m other first second)
 
 pub three_written : (xs ys zs : List ℕ) (t : Tables3) (numbers sources targets : List ℕ) {r q p : ℕ} → length zs ≡ length xs → out (done r) numbers ≡ written xs t.numbers
     → out (done q) sources ≡ written ys t.sources → out (done p) targets ≡ written zs t.targets
