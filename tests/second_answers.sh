@@ -1,6 +1,7 @@
 #!/usr/bin/env bash
 # Every public function of a library stands in the list of second answers (crates/demands/proofs/Settled*.antt), once, by its own name, and
-# as one that takes every input unless it is a part.
+# as one that takes every input unless it is a part. A call for C (crates/*_c, on which no crate can stand) has parameters, result and clauses
+# of the function of its name in its library, word for word, and so is settled as that one is.
 set -euo pipefail
 cd "$(dirname "${BASH_SOURCE[0]}")/.."
 
@@ -10,6 +11,7 @@ functions() {
     find crates/*/src -name '*.rt' | while read -r file; do
         crate=${file#crates/} crate=${crate%%/*}
         [ -f "crates/$crate/src/lib.rt" ] || continue
+        [ "${crate%_c}" = "$crate" ] || continue
         place=${file#"crates/$crate/src/"} place=${place%.rt} place=${place//\//.}
         [ "$place" = lib ] && place=$crate || place=$crate.$place
         awk -v place="$place" '
@@ -28,14 +30,32 @@ functions() {
 listed() {
     sed -nE 's/^pub [^ ]+ : (Settles(All|ByHand)? .*)$/\1/p' crates/demands/proofs/Settled*.antt | awk '
         {
-            name = $2
-            sub(/\.ended$/, "", name)
-            all = "SettlesAll " name ".ended " name ".Reads.Pre " name ".Reads.Post"
-            part = "Settles " name ".ended " name ".Reads.Post"
-            hand = "SettlesByHand " name ".ended (λ M. " name ".clauses {M = M}) "
+            contract = $2
+            sub(/\.ended$/, "", contract)
+            name = contract
+            sub(/_contracts\./, ".", name)
+            all = "SettlesAll " contract ".ended " name ".Reads.Pre " name ".Reads.Post"
+            part = "Settles " contract ".ended " name ".Reads.Post"
+            hand = "SettlesByHand " contract ".ended (λ M. " contract ".clauses {M = M}) "
             print ($0 == all || ($0 == part && name ~ /\.parts\./) || index($0, hand) == 1) ? name : $0
         }' | sort
 }
+
+# the promise of each public function of a file, one to a line: its name, parameters, result and clauses
+promises() {
+    awk '
+        /^pub (extern "C" )?fn / { promise = ""; within = 1; sub(/extern "C" /, "") }
+        within && /^{/ { print promise; within = 0 }
+        within { promise = promise " " $0 }' "$1" | sed 's/  */ /g' | sort
+}
+
+for folder in crates/*_c; do
+    library=${folder%_c}
+    if ! comm -23 <(promises "$folder/src/lib.rt") <(promises "$library/src/lib.rt") | { ! grep .; }; then
+        echo "second answers: FAILED (a call for C of $folder promises other than the function of its name in $library, or has none there)"
+        exit 1
+    fi
+done
 
 found=$(functions)
 if ! diff <(printf '%s\n' "$found") <(listed); then

@@ -156,7 +156,7 @@ commands_edge_removed_reply κs given x y p q = answers-alike p q
 pub commands_node_removed_reply : Settles commands_contracts.parts.node_removed_reply.ended commands.parts.node_removed_reply.Reads.Post
 commands_node_removed_reply κs given x y p q = answers-alike p q
 
-pub operands_of_lem : SettlesAll letters_contracts.operands_of_lem.ended letters.operands_of_lem.Reads.Pre letters.operands_of_lem.Reads.Post
+pub operands_of_lem : SettlesAll letters_contracts.operands_of.ended letters.operands_of.Reads.Pre letters.operands_of.Reads.Post
 operands_of_lem = (λ κs given. tt, λ κs given x y p q. answers-alike p q)
 
 pub dispatch_command : SettlesAll dispatch_contracts.dispatch.ended dispatch.dispatch.Reads.Pre dispatch.dispatch.Reads.Post
