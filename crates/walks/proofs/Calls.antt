@@ -8,7 +8,6 @@ use Rattle.tables.specs.Net.{Net}
 use Rattle.tables.specs.Answers.{Out, out, refused, unless, give}
 use Rattle.lists.specs.declared.Item.{Item}
 use Rattle.lists.specs.declared.Item.TheVariants.{Number}
-use Rattle.lists.specs.declared.Pick.{Pick}
 use Rattle.lists.specs.declared.Pick.TheVariants.{Every, NotTo}
 use Rattle.lists.specs.Walk.{item_of}
 use Rattle.legs.specs.declared.parts.Leg.{Leg}
