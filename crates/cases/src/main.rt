@@ -10,7 +10,7 @@ use image::{image_read, image_write};
 use index::{EdgeIndex, NodeIndex};
 use script::parts::run_lines;
 use std::io;
-use std::io::Read;
+use std::io::{Read, Stdout};
 use tables::Changed;
 use tables::parts::{EDGE_CELLS, NODE_CELLS};
 
@@ -42,7 +42,7 @@ fn read_script<R: Read>(input: &mut R, script: &mut [u8]) -> io::Result<usize>
 }
 
 // Obeys a script in an empty network. It has no G, which alone would need tables of sources and of targets.
-fn run(rt: &impl Print, script: &[u8]) -> io::Result<()>
+fn run(stdout: &Stdout, script: &[u8]) -> io::Result<()>
     requires { length script.now ≤ 1024 }
 {
     let mut out = [0u8; 1024];
@@ -69,24 +69,24 @@ fn run(rt: &impl Print, script: &[u8]) -> io::Result<()>
         &mut [],
         &mut [],
     );
-    answers(rt, &out, ended.bytes)?;
-    edge_rows(rt, &registers, &links, &ends)
+    answers(stdout, &out, ended.bytes)?;
+    edge_rows(stdout, &registers, &links, &ends)
 }
 
-fn answers(rt: &impl Print, out: &[u8], bytes: usize) -> io::Result<()> {
+fn answers(stdout: &Stdout, out: &[u8], bytes: usize) -> io::Result<()> {
     let written = lend(out, bytes);
-    show::text(rt, &out[..written])
+    show::text(stdout, &out[..written])
 }
 
 // Those past the last in use are vacant.
-fn edge_rows(rt: &impl Print, registers: &[u32], links: &[u32], ends: &[u32]) -> io::Result<()> {
-    show::cells(rt, b"weights:", registers)?;
-    show::cells(rt, b"links:", links)?;
-    show::cells(rt, b"ends:", ends)
+fn edge_rows(stdout: &Stdout, registers: &[u32], links: &[u32], ends: &[u32]) -> io::Result<()> {
+    show::cells(stdout, b"weights:", registers)?;
+    show::cells(stdout, b"links:", links)?;
+    show::cells(stdout, b"ends:", ends)
 }
 
 // One node weighing -3, no edges: its image, and what a read of 24 bytes of it is refused with.
-fn one_node(rt: &impl Print) -> io::Result<()> {
+fn one_node(stdout: &Stdout) -> io::Result<()> {
     let mut bytes = [0u8; 25];
     image_write(
         &[-3],
@@ -98,12 +98,12 @@ fn one_node(rt: &impl Print) -> io::Result<()> {
         0,
         &mut bytes,
     );
-    show::bytes(rt, b"image:", &bytes)?;
+    show::bytes(stdout, b"image:", &bytes)?;
     let short = lend(&bytes, 24);
-    read(rt, &bytes[..short])
+    read(stdout, &bytes[..short])
 }
 
-fn read(rt: &impl Print, bytes: &[u8]) -> io::Result<()> {
+fn read(stdout: &Stdout, bytes: &[u8]) -> io::Result<()> {
     let mut weights = [0i32; 1];
     let mut heads = [EdgeIndex::END.0; NODE_CELLS];
     let mut n = 0;
@@ -118,19 +118,20 @@ fn read(rt: &impl Print, bytes: &[u8]) -> io::Result<()> {
         &mut m,
         bytes,
     );
-    told(rt, answer)
+    told(stdout, answer)
 }
 
-fn told(rt: &impl Print, answer: Changed) -> io::Result<()> {
+fn told(stdout: &Stdout, answer: Changed) -> io::Result<()> {
     let Changed::Refused(why) = answer else {
         return Ok(());
     };
-    show::cells(rt, b"24 bytes of it, refused:", &[why.number()])
+    show::cells(stdout, b"24 bytes of it, refused:", &[why.number()])
 }
 
 fn main(rt: HostRuntime) -> io::Result<()> {
     let mut script = [0u8; 1024];
     let read = read_script(&mut rt.stdin(), &mut script)?;
-    run(&rt, &script[..read])?;
-    one_node(&rt)
+    let stdout = rt.stdout();
+    run(&stdout, &script[..read])?;
+    one_node(&stdout)
 }

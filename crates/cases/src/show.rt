@@ -1,28 +1,29 @@
 // How a case is printed: a space before each number and each byte, `END` by name, and bytes in hexadecimal.
 use printer::print_number;
 use std::io;
+use std::io::Stdout;
 
-pub fn text(rt: &impl Print, s: &[u8]) -> io::Result<()> {
-    rt.write_all(s)
+pub fn text(stdout: &Stdout, s: &[u8]) -> io::Result<()> {
+    stdout.write_all(s)
 }
 
-fn number(rt: &impl Print, x: u32) -> io::Result<()> {
+fn number(stdout: &Stdout, x: u32) -> io::Result<()> {
     if x == 4294967295 {
-        return text(rt, b" END");
+        return text(stdout, b" END");
     }
-    text(rt, b" ")?;
-    print_number(rt, x as u64);
+    text(stdout, b" ")?;
+    print_number(stdout, x as u64);
     Ok(())
 }
 
-pub fn cells(rt: &impl Print, label: &[u8], column: &[u32]) -> io::Result<()> {
-    text(rt, label)?;
+pub fn cells(stdout: &Stdout, label: &[u8], column: &[u32]) -> io::Result<()> {
+    text(stdout, label)?;
     let mut i = 0;
     while i < column.len() {
-        number(rt, column[i])?;
+        number(stdout, column[i])?;
         i += 1;
     }
-    text(rt, b"\n")
+    text(stdout, b"\n")
 }
 
 // The last hexadecimal digit.
@@ -34,14 +35,14 @@ fn digit(x: u8) -> u8 {
     b'A' - 10 + last
 }
 
-pub fn bytes(rt: &impl Print, label: &[u8], column: &[u8]) -> io::Result<()> {
-    text(rt, label)?;
+pub fn bytes(stdout: &Stdout, label: &[u8], column: &[u8]) -> io::Result<()> {
+    text(stdout, label)?;
     let mut i = 0;
     while i < column.len() {
         let x = column[i];
         let shown = [b' ', digit(x / 16), digit(x)];
-        text(rt, &shown)?;
+        text(stdout, &shown)?;
         i += 1;
     }
-    text(rt, b"\n")
+    text(stdout, b"\n")
 }

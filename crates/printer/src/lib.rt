@@ -8,7 +8,7 @@ ghost use Rattle.printing.specs.Digits.{digits};
 
 use printing::parts::{glyph, leading};
 use std::io;
-use std::io::Write;
+use std::io::{Stdout, Write};
 
 // Writes a digit. A writer takes bytes from memory, so the one stands in an array.
 fn write_digit<W: Write>(out: &mut W, d: u64) -> io::Result<()>
@@ -34,7 +34,6 @@ fn write_digits<W: Write>(out: &mut W, x: u64) -> io::Result<()>
 }
 
 // Prints x. Nothing is answered: where x could not be written, what is printed next fails too, and tells it.
-pub fn print_number(rt: &impl Print, x: u64) {
-    let mut out = io::writer(rt);
-    let _ = write_digits(&mut out, x);
+pub fn print_number(stdout: &Stdout, x: u64) {
+    let _ = write_digits(&mut io::writer(stdout), x);
 }

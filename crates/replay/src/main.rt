@@ -11,7 +11,7 @@ ghost use Rattle.std.specs.Prelude.{◌≤◌, ◌<◌, ◌≡◌, length, take}
 use printer::print_number;
 use script::net_run;
 use std::io;
-use std::io::{ErrorKind, Read};
+use std::io::{ErrorKind, Read, Stdout};
 
 // Room for the longest script of the list, and more than for its longest buffer: what lies behind a buffer is not to be touched either.
 const SCRIPT_ROOM: usize = 16385;
@@ -48,9 +48,9 @@ fn read_number<R: Read>(input: &mut R) -> io::Result<usize> {
     )
 }
 
-fn print_with(rt: &impl Print, x: usize, behind: &[u8]) -> io::Result<()> {
-    print_number(rt, x as u64);
-    rt.write_all(behind)
+fn print_with(stdout: &Stdout, x: usize, behind: &[u8]) -> io::Result<()> {
+    print_number(stdout, x as u64);
+    stdout.write_all(behind)
 }
 
 // At most `len` of the bytes. The contract is what `&bytes[..lent]` asks.
@@ -81,16 +81,16 @@ fn run(script: &[u8], out: &mut [u8], room: usize) -> u64 {
     net_run(script, &mut out[..lent])
 }
 
-fn answer(rt: &impl Print, place: usize, script: &[u8], room: usize) -> io::Result<()> {
+fn answer(stdout: &Stdout, place: usize, script: &[u8], room: usize) -> io::Result<()> {
     let mut out = [MARK; OUT_ROOM];
     let told = run(script, &mut out, room);
     let written = (told % 4294967296) as usize;
-    print_with(rt, place, b": ")?;
-    print_with(rt, (told / 4294967296) as usize, b" ")?;
-    print_with(rt, written, b" ")?;
-    print_with(rt, touched(&out, written), b"\n")?;
+    print_with(stdout, place, b": ")?;
+    print_with(stdout, (told / 4294967296) as usize, b" ")?;
+    print_with(stdout, written, b" ")?;
+    print_with(stdout, touched(&out, written), b"\n")?;
     let shown = lend(&out, written);
-    rt.write_all(&out[..shown])
+    stdout.write_all(&out[..shown])
 }
 
 fn read_bytes<R: Read>(input: &mut R, bytes: &mut [u8], len: usize) -> io::Result<()> {
@@ -99,7 +99,7 @@ fn read_bytes<R: Read>(input: &mut R, bytes: &mut [u8], len: usize) -> io::Resul
 }
 
 // The next script of the list, and its answer.
-fn ask<R: Read>(rt: &impl Print, input: &mut R) -> io::Result<()> {
+fn ask<R: Read>(stdout: &Stdout, input: &mut R) -> io::Result<()> {
     let place = read_number(input)?;
     let len = read_number(input)?;
     let room = read_number(input)?;
@@ -108,14 +108,15 @@ fn ask<R: Read>(rt: &impl Print, input: &mut R) -> io::Result<()> {
     let mut newline = [0u8; 1];
     read_bytes(input, &mut newline, 1)?;
     let lent = lend(&script, len);
-    answer(rt, place, &script[..lent], room)
+    answer(stdout, place, &script[..lent], room)
 }
 
 fn main(rt: HostRuntime) -> io::Result<()> {
     let mut input = rt.stdin();
+    let stdout = rt.stdout();
     let scripts = read_number(&mut input)?;
     for _ in 0..scripts {
-        ask(&rt, &mut input)?;
+        ask(&stdout, &mut input)?;
     }
     Ok(())
 }

@@ -5,6 +5,7 @@ use index::EdgeIndex;
 use printer::print_number;
 use sound::Checked;
 use std::io;
+use std::io::Stdout;
 
 const END: u32 = EdgeIndex::END.0;
 
@@ -15,58 +16,82 @@ const LINKS: [u32; 4] = [END, END, END, END];
 
 const ENDS: [u32; 4] = [0, 1, 1, 0];
 
-pub fn run(rt: &impl Print) -> io::Result<()> {
+pub fn run(stdout: &Stdout) -> io::Result<()> {
     // Both directions read both edges.
-    told(rt, b"sound: ", of(HEADS, LINKS, ENDS))?;
+    told(stdout, b"sound: ", of(HEADS, LINKS, ENDS))?;
     // 2 is not below m, and is not END.
-    told(rt, b"outgoing link past m: ", of([0, 1, 2, 0], LINKS, ENDS))?;
-    told(rt, b"incoming link past m: ", of([0, 1, 1, 2], LINKS, ENDS))?;
+    told(
+        stdout,
+        b"outgoing link past m: ",
+        of([0, 1, 2, 0], LINKS, ENDS),
+    )?;
+    told(
+        stdout,
+        b"incoming link past m: ",
+        of([0, 1, 1, 2], LINKS, ENDS),
+    )?;
     // Edge 1 stands in node 1's outgoing list and has source 0; edge 0 in its incoming list and has target 0.
-    told(rt, b"outgoing wrong end: ", of(HEADS, LINKS, [0, 1, 0, 0]))?;
-    told(rt, b"incoming wrong end: ", of(HEADS, LINKS, [0, 0, 1, 0]))?;
+    told(
+        stdout,
+        b"outgoing wrong end: ",
+        of(HEADS, LINKS, [0, 1, 0, 0]),
+    )?;
+    told(
+        stdout,
+        b"incoming wrong end: ",
+        of(HEADS, LINKS, [0, 0, 1, 0]),
+    )?;
     // An edge that leads to itself: the list does not end.
     told(
-        rt,
+        stdout,
         b"outgoing endless: ",
         of(HEADS, [0, END, END, END], ENDS),
     )?;
     told(
-        rt,
+        stdout,
         b"incoming endless: ",
         of(HEADS, [END, END, END, 1], ENDS),
     )?;
     // Every list ends, and one edge is in none: node n.
-    told(rt, b"outgoing unlisted: ", of([0, 1, END, 0], LINKS, ENDS))?;
-    told(rt, b"incoming unlisted: ", of([0, 1, 1, END], LINKS, ENDS))?;
+    told(
+        stdout,
+        b"outgoing unlisted: ",
+        of([0, 1, END, 0], LINKS, ENDS),
+    )?;
+    told(
+        stdout,
+        b"incoming unlisted: ",
+        of([0, 1, 1, END], LINKS, ENDS),
+    )?;
     // The first fault is told: outgoing before incoming, and in node order.
-    told(rt, b"both directions: ", of([0, 2, 2, 0], LINKS, ENDS))?;
-    told(rt, b"both nodes: ", of([2, 1, 2, 0], LINKS, ENDS))
+    told(stdout, b"both directions: ", of([0, 2, 2, 0], LINKS, ENDS))?;
+    told(stdout, b"both nodes: ", of([2, 1, 2, 0], LINKS, ENDS))
 }
 
 fn of(heads: [u32; 4], links: [u32; 4], ends: [u32; 4]) -> Tables {
     Tables { heads, links, ends }
 }
 
-fn told(rt: &impl Print, label: &[u8], t: Tables) -> io::Result<()> {
+fn told(stdout: &Stdout, label: &[u8], t: Tables) -> io::Result<()> {
     let weights = [0i32; 2];
     let registers = [0u32; 2];
     let heads = t.heads;
     let links = t.links;
     let ends = t.ends;
-    rt.write_all(label)?;
+    stdout.write_all(label)?;
     match sound::check(&weights, &heads, &registers, &links, &ends, 2, 2) {
         Checked::Accepted(rows) => {
-            print_number(rt, 0);
-            crate::count(rt, rows)?;
+            print_number(stdout, 0);
+            crate::count(stdout, rows)?;
         }
         Checked::Fault(d, a) => {
-            print_number(rt, 6);
-            crate::number(rt, d.number() as u64)?;
-            crate::count(rt, a.0)?;
+            print_number(stdout, 6);
+            crate::number(stdout, d.number() as u64)?;
+            crate::count(stdout, a.0)?;
         }
         Checked::Refused(why) => {
-            print_number(rt, why.number() as u64);
+            print_number(stdout, why.number() as u64);
         }
     }
-    rt.write_all(b"\n")
+    stdout.write_all(b"\n")
 }

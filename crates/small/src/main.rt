@@ -1,6 +1,6 @@
 // The check, first on one fault of each kind (faults.rt), then on every small table: n and m up to 2, each link and end
 // 0, 1, 2 or `END`. A line of these has n and m, how many networks there are, how many are accepted, the faults by direction
-// and node, others (none), and a hash of all answers in turn. An independent check, oracle/tests/small_tables.rs, works out
+// and node, others (none), and a hash of all answers in turn. An independent check, oracle/tests/small_tables.rs, works stdout
 // the same lines.
 #![tactic(auto)]
 
@@ -10,6 +10,7 @@ use index::EdgeDirection;
 use printer::print_number;
 use sound::Checked;
 use std::io;
+use std::io::Stdout;
 
 mod faults;
 
@@ -128,46 +129,47 @@ fn all(networks: u32, n: u32, m: u32) -> Tally {
     t
 }
 
-fn number(rt: &impl Print, x: u64) -> io::Result<()> {
-    rt.write_all(b" ")?;
-    print_number(rt, x);
+fn number(stdout: &Stdout, x: u64) -> io::Result<()> {
+    stdout.write_all(b" ")?;
+    print_number(stdout, x);
     Ok(())
 }
 
-fn count(rt: &impl Print, x: u32) -> io::Result<()> {
-    number(rt, x as u64)
+fn count(stdout: &Stdout, x: u32) -> io::Result<()> {
+    number(stdout, x as u64)
 }
 
-fn line(rt: &impl Print, n: u32, m: u32) -> io::Result<()> {
+fn line(stdout: &Stdout, n: u32, m: u32) -> io::Result<()> {
     let i = 3 * (n as usize % 3) + (m as usize % 3);
     let networks = NETWORKS[i];
     let t = all(networks, n, m);
-    print_number(rt, n as u64);
-    count(rt, m)?;
-    rt.write_all(b":")?;
-    count(rt, networks)?;
+    print_number(stdout, n as u64);
+    count(stdout, m)?;
+    stdout.write_all(b":")?;
+    count(stdout, networks)?;
     let counts = t.counts;
-    count(rt, counts[0])?;
-    count(rt, counts[1])?;
-    count(rt, counts[2])?;
-    count(rt, counts[3])?;
-    count(rt, counts[4])?;
-    count(rt, counts[5])?;
-    count(rt, counts[6])?;
-    count(rt, counts[7])?;
-    number(rt, t.hash)?;
-    rt.write_all(b"\n")
+    count(stdout, counts[0])?;
+    count(stdout, counts[1])?;
+    count(stdout, counts[2])?;
+    count(stdout, counts[3])?;
+    count(stdout, counts[4])?;
+    count(stdout, counts[5])?;
+    count(stdout, counts[6])?;
+    count(stdout, counts[7])?;
+    number(stdout, t.hash)?;
+    stdout.write_all(b"\n")
 }
 
 fn main(rt: HostRuntime) -> io::Result<()> {
-    faults::run(&rt)?;
-    line(&rt, 0, 0)?;
-    line(&rt, 0, 1)?;
-    line(&rt, 0, 2)?;
-    line(&rt, 1, 0)?;
-    line(&rt, 1, 1)?;
-    line(&rt, 1, 2)?;
-    line(&rt, 2, 0)?;
-    line(&rt, 2, 1)?;
-    line(&rt, 2, 2)
+    let stdout = rt.stdout();
+    faults::run(&stdout)?;
+    line(&stdout, 0, 0)?;
+    line(&stdout, 0, 1)?;
+    line(&stdout, 0, 2)?;
+    line(&stdout, 1, 0)?;
+    line(&stdout, 1, 1)?;
+    line(&stdout, 1, 2)?;
+    line(&stdout, 2, 0)?;
+    line(&stdout, 2, 1)?;
+    line(&stdout, 2, 2)
 }
