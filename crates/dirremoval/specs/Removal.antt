@@ -1,7 +1,6 @@
 -- Taking an edge out of a network with a directory.
 use Rattle.std.specs.Prelude.{ℕ, ◌-◌, ◌&&◌}
 use Rattle.index.specs.declared.Refusal.TheVariants.{Broken}
-use Rattle.tables.specs.Net.{Net}
 use Rattle.tables.specs.Answers.{Out, out, refused, unless}
 use Rattle.removal.specs.Removal.{Gone, remove_edge}
 use Rattle.directory.specs.Directory.{Filed, filed, register_of, followed, beside, named}
