@@ -33,7 +33,7 @@ use Rattle.links.specs.Parts.{Place}
 use Rattle.removal.proofs.Stores.{row_other, Remains, led-link, led_else, last_into_lem}
 use Rattle.links.proofs.Seeks.{seek_found, seek-on}
 use Rattle.removal.proofs.Spots.{spot_of, found_at}
-use Rattle.removal.proofs.EdgeOuts.{leader, served, all, cut, cut_else, cut_fits, cut_lacks, place, last_is, last, moved, moved-is, taken_out_lem}
+use Rattle.removal.proofs.EdgeOuts.{leader, all, cut, cut_else, cut_fits, cut_lacks, place, last_is, last, moved, moved-is, taken_out_lem}
 use Rattle.links.proofs.Hits.{place_kept}
 use Rattle.removal.proofs.Members.{pos-below}
 use Rattle.original.specs.Std.{returns, ◌!◌}
