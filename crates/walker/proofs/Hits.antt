@@ -1,6 +1,6 @@
 -- A step along the incoming list, told from what the search for its row finds.
 use Prim.Native.Nat.{ℕ, ◌≤◌, ◌<◌}
-use mathlib.Core.Path.{◌≡◌, refl}
+use mathlib.Core.Path.{◌≡◌, refl, sym, ◌∙◌}
 use mathlib.Core.Bool.{Bool, true, false, cond}
 use mathlib.Core.List.{List, [], ◌∷◌}
 use lib.Dec.{ltb}
@@ -63,3 +63,8 @@ ended g w = stop_from g.links g.m 1 w.incoming.0
 pub incoming_step_lem : (g : Net) (w : Walker) → fits g ≡ true → g.m ≤ w.outgoing.0 → step g w ≡ incoming_step g w (others g w) (ended g w)
 unfolding step
 incoming_step_lem g w f o = rw (f, le-ltb _ _ o)
+
+-- the same, past what the search for the row was found to be
+pub found-told : (g : Net) (w : Walker) {r v : Found} → r ≡ first_of (others g w) g.m (ended g w) → r ≡ v
+    → step_of g w v ≡ incoming_step g w (others g w) (ended g w)
+found-told g w {r} {v} p e = step-told g w (others g w) (ended g w) v (sym e ∙ p)
