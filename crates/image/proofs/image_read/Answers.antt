@@ -36,7 +36,9 @@ unfolding image_read
 returns-then-version-ne-VERSION c = search (guards, versions) depth 9
 
 pub read_one-requires : goal.read_one-requires
-read_one-requires c = let f = fitting c.fits.ensures c.if-not-fits.false in record { agree = record { heads_agree = omega arith; links_agree = omega arith; ends_agree = omega arith }; head-holds = omega arith }
+read_one-requires c =
+    let f = fitting c.fits.ensures c.if-not-fits.false in
+    record { agree = record { heads_agree = omega arith; links_agree = omega arith; ends_agree = omega arith }; head-holds = omega arith }
 
 pub returns : goal.returns
 unfolding image_read

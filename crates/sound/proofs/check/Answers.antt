@@ -24,10 +24,14 @@ unfolding checked
 returns-then-not-fits c = search guards depth 9
 
 pub walk_lists-requires : goal.walk_lists-requires
-walk_lists-requires c = let f = fitting c.fits.ensures c.if-not-fits.false in record { heads_hold = omega arith; edges = record { links_hold = omega arith; ends_hold = omega arith; direction = omega arith } }
+walk_lists-requires c =
+    let f = fitting c.fits.ensures c.if-not-fits.false in
+    record { heads_hold = omega arith; edges = record { links_hold = omega arith; ends_hold = omega arith; direction = omega arith } }
 
 pub walk_lists-requires-in-Read : goal.walk_lists-requires-in-Read
-walk_lists-requires-in-Read c = let f = fitting c.fits.ensures c.if-not-fits.false in record { heads_hold = omega arith; edges = record { links_hold = omega arith; ends_hold = omega arith; direction = omega arith } }
+walk_lists-requires-in-Read c =
+    let f = fitting c.fits.ensures c.if-not-fits.false in
+    record { heads_hold = omega arith; edges = record { links_hold = omega arith; ends_hold = omega arith; direction = omega arith } }
 
 pub overflow_add-result : goal.overflow_add-result
 overflow_add-result c =
