@@ -1,12 +1,11 @@
 -- A sound network with a right directory, stripped of a node's edges, has a right directory of as many cells: `strip-kept`.
 use Prim.Native.Nat.{ℕ, zero, suc, ◌<◌}
-use mathlib.Core.Path.{◌≡◌, refl, sym, ap, ◌∙◌}
-use mathlib.Core.Bool.{Bool, true, false, cond}
+use mathlib.Core.Path.{◌≡◌, sym, ap, ◌∙◌}
+use mathlib.Core.Bool.{true}
 use mathlib.Core.List.{List, []}
 use native.Mathlib.Decide.{ℕ_discrete}
 use native.Mathlib.Omega.{arith}
-use lib.Dec.{ltb}
-use lib.ListN.{length, set, length-set}
+use lib.ListN.{length}
 use Rattle.index.specs.Index.{END}
 use Rattle.tables.specs.Net.{Net, fits}
 use Rattle.tables.specs.Answers.{Told, out}
@@ -14,7 +13,6 @@ use Rattle.lists.specs.declared.Spot.TheVariants.{Head}
 use Rattle.lists.specs.Walk.{link_at}
 use Rattle.sound.specs.Sound.{Sound}
 use Rattle.removal.specs.Removal.{taken_out}
-use Rattle.removal.specs.Lists.{less_edge}
 use Rattle.stripping.specs.Heads.{Strip, strip, head_out, emptied, stripped}
 use Rattle.stripping.proofs.Turns.{emptied-done, emptied-on, head-out}
 use Rattle.directory.specs.Directory.{register_of, Right, followed}

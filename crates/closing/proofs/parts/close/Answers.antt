@@ -1,0 +1,51 @@
+-- The two lists are settled, and their edges counted.
+use Rattle.std.proofs.Common.{◌≡◌, length, arith}
+use Rattle.tables.specs.Net.{net}
+use Rattle.closing.proofs.Closes.{fit_of_lem, both-settled, not_broken, count_is, enough, too_short, long_enough}
+use Rattle.closing.proofs.parts.close.Goals as goal
+
+pub along-first-requires : goal.along-first-requires
+along-first-requires c = omega (arith, fit_of_lem c.requires, c.requires.node)
+
+pub along-second-requires : goal.along-second-requires
+along-second-requires c = omega (arith, fit_of_lem c.requires, c.requires.node)
+
+pub settle-both-requires : goal.settle-both-requires
+settle-both-requires c =
+    let f = fit_of_lem c.requires in
+    record {
+      few = omega (arith, f.edges_most, f.m_within);
+      registers_hold = omega arith;
+      links_hold = omega (arith, f.links_agree, f.m_within);
+      ends_hold = omega (arith, f.ends_agree, f.m_within);
+      first_way = rw c.along-first.ensures (omega arith);
+      second_way = rw c.along-second.ensures (omega arith);
+    }
+
+pub returns-in_default : goal.returns-in_default
+returns-in_default c =
+    let a = c.args in
+    let g = net a.weights.now a.heads.now a.registers.now a.links.now a.ends.now a.n.now a.m.now in
+    let s = both-settled g a.a.0 c.along-first.ensures c.along-second.ensures c.settle-both.ensures in
+    absurd (not_broken _ _ c.requires _ s c.in_default.is)
+
+pub returns-then-items-count : goal.returns-then-items-count
+returns-then-items-count c =
+    let a = c.args in
+    let g = net a.weights.now a.heads.now a.registers.now a.links.now a.ends.now a.n.now a.m.now in
+    let s = both-settled g a.a.0 c.along-first.ensures c.along-second.ensures c.settle-both.ensures in
+    too_short _ _ c.requires _ _ (count_is _ _ c.requires _ _ _ _ _ s c.in-Rows.is) c.if-items-count.true
+
+pub take_node-requires : goal.take_node-requires
+take_node-requires c =
+    let a = c.args in
+    let g = net a.weights.now a.heads.now a.registers.now a.links.now a.ends.now a.n.now a.m.now in
+    let s = both-settled g a.a.0 c.along-first.ensures c.along-second.ensures c.settle-both.ensures in
+    record { closable = c.requires; room = enough _ _ c.requires _ _ (count_is _ _ c.requires _ _ _ _ _ s c.in-Rows.is) c.if-items-count.false }
+
+pub returns : goal.returns
+returns c =
+    let a = c.args in
+    let g = net a.weights.now a.heads.now a.registers.now a.links.now a.ends.now a.n.now a.m.now in
+    let s = both-settled g a.a.0 c.along-first.ensures c.along-second.ensures c.settle-both.ensures in
+    long_enough _ _ c.requires _ _ _ (count_is _ _ c.requires _ _ _ _ _ s c.in-Rows.is) c.if-items-count.false c.take_node.ensures
