@@ -4,9 +4,10 @@ SEED ?= 1
 COUNT ?= 20000
 
 CARGO = --release --offline --manifest-path oracle/Cargo.toml
-SOURCES = crates.txt $(shell find crates -name '*.rt' -o -name '*.antt')
+SOURCES = crates.txt $(shell find crates -name out -prune -o -name '*.rt' -print -o -name '*.antt' -print)
+NETRUN = crates/netrun/out/netrun
 
-run: target/bin/netrun
+run: $(NETRUN)
 	@make/program.sh netrun < $(SCRIPT)
 
 # In seconds, by the sources as they are. Nothing is proved by it.
@@ -52,7 +53,7 @@ python: staticlib
 	python3 python/network_a.py
 
 # Both are proved first, with what they stand on. What has not changed since is not proved again.
-target/bin/netrun: $(SOURCES)
+$(NETRUN): $(SOURCES)
 	@make/prove.sh netrun >&2
 	@touch $@
 

@@ -3,8 +3,8 @@
 # or what the file has for one that was not.
 set -euo pipefail
 cd "$(dirname "${BASH_SOURCE[0]}")/.."
-for name in $(sed -n 's/^\([a-z][a-z]*\):.*/\1/p' crates.txt); do
-    took=$(sed -nE "s/^rt: $name proved \(([0-9]+) s\)$/\1/p" "target/log/$name.out" 2>/dev/null || true)
+for name in $(sed -nE 's/^([a-z_]+)( staticlib)?:.*/\1/p' crates.txt); do
+    took=$(cat "target/log/$name.seconds" 2>/dev/null || true)
     [ -n "$took" ] || took=$(sed -n "s/^$name //p" make/seconds.txt)
     [ -z "$took" ] || echo "$name $took"
 done | sort >make/seconds.new
