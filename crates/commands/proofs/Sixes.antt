@@ -113,7 +113,7 @@ module _ (n m : ℕ) (next f : ℕ → ℕ) (p : ℕ → Bool) (nodes : (x : ℕ
 module _ (g : Net) (ls : ℕ → ℕ → List ℕ) (f : fits g ≡ true) (S : Sound g ls) where
   -- no list is broken
   unbroken : (k a : ℕ) → k < 2 → a < g.n → broken g k a ≡ false
-  unbroken k a h l = chain_ends (link_at g k) g.m (small g f) (Head a) (ls k a) (S.all_End k a h l)
+  unbroken k a h l = chain_ends (link_at g k) g.m (small g f) (Head a) (ls k a) (S.all_end k a h l)
 
   pub sought_ways : {X : Type 0} (P : X → Type 0) (found : ℕ → X) (missing endless : X) (a b : ℕ) → a < g.n
       → ((e : ℕ) → P (found e)) → P missing → P (on (sought g a b) found missing endless)

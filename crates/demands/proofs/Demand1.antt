@@ -1,6 +1,6 @@
 -- Demand 1, `demand_1`, by one law: a call is its tests, each with its refusal, and then it is served. Assumes nothing.
 use Prim.{tt}
-use Prim.Native.Nat.{ℕ, suc, ◌+◌, ◌-◌, ◌≤◌, min}
+use Prim.Native.Nat.{ℕ, ◌+◌, ◌-◌, ◌≤◌, min}
 use mathlib.Core.Path.{◌≡◌, refl, sym, ap, subst}
 use mathlib.Core.Logic.{◌⊎◌, inl, inr}
 use mathlib.Core.Bool.{Bool, true, false, cond, not, ◌&&◌}
@@ -55,7 +55,7 @@ use Rattle.letters.specs.Letters.{among}
 use Rattle.dispatch.specs.Step.{State}
 use Rattle.script.specs.Script.{most_bytes, text_of, answers, Each, Ran, ran, printed, begun, run}
 use Rattle.script.proofs.Sayings.{run-told}
-use Rattle.demands.specs.Demand1.{ServedOr, served, refused_by, Refuses, Tells, step_refusal, load_refusal, lines_that_fit, first_lines, run_refusal, SixExactly, Demand1}
+use Rattle.demands.specs.Demand1.{ServedOr, served, refused_by, Refuses, Tells, step_refusal, load_refusal, lines_that_fit, first_lines, run_refusal, Demand1}
 
 -- a number that is found in a list stands in it
 pub in_list : (x : ℕ) (xs : List ℕ) → among x xs ≡ true → In x xs

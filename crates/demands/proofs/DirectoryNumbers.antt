@@ -16,7 +16,7 @@ use Rattle.index.specs.declared.Refusal.TheVariants.{Broken}
 use Rattle.index.specs.Index.{END, is_end, number_of}
 use Rattle.index.specs.Refusals.{refusal_no}
 use Rattle.tables.specs.Net.{Net, fits}
-use Rattle.tables.specs.Answers.{Told, Out, out, refused}
+use Rattle.tables.specs.Answers.{Told, Out, refused}
 use Rattle.tables.proofs.Laws.{both, tested}
 use Rattle.lists.specs.Chain.{In}
 use Rattle.find.specs.Find.{update_edge}
