@@ -1,5 +1,5 @@
 -- The two lists are settled, and their edges counted.
-use Rattle.std.proofs.Common.{◌≡◌, length, arith}
+use Rattle.std.proofs.Common.{arith}
 use Rattle.tables.specs.Net.{net}
 use Rattle.closing.proofs.Closes.{fit_of_lem, both-settled, not_broken, count_is, enough, too_short, long_enough}
 use Rattle.closing.proofs.parts.close.Goals as goal
