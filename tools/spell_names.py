@@ -12,7 +12,7 @@ import os
 import re
 import sys
 
-NAME = re.compile(r"[^\W\d][\w'-]*")
+NAME = re.compile(r"(?<![\w'])[^\W\d][\w'-]*")
 DECLARED = re.compile(r"^\s*(?:(?:abbrev|unfoldable|pub|data|record)\s+)*([^\W\d][\w'-]*)(?:\s+\{[^}]*\}|\s+\([^)]*\))*\s*:\s")
 CAMEL = re.compile(r"[a-z0-9][A-Z]")
 # words of the library that a lemma's left side begins with
@@ -120,7 +120,7 @@ def turn_rt(text, names, lib):
             continue
         pieces = re.split(r'("(?:\\.|[^"\\])*")', line)
         for i in range(0, len(pieces), 2):
-            pieces[i] = re.sub(r"[^\W\d][\w']*", lambda m: turn_word(m.group(0), names, lib) if CAMEL.search(m.group(0)) else m.group(0), pieces[i])
+            pieces[i] = re.sub(r"(?<![\w'])[^\W\d][\w']*", lambda m: turn_word(m.group(0), names, lib) if CAMEL.search(m.group(0)) else m.group(0), pieces[i])
         out.append("".join(pieces))
     return "\n".join(out)
 
