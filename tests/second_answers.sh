@@ -26,9 +26,8 @@ functions() {
 }
 
 # the function of each line of the list; a line that names two, or takes less than every input where it is no part, is told whole.
-# A function that is proved by hand stands there with its clauses and their claim.
 listed() {
-    sed -nE 's/^pub [^ ]+ : (Settles(All|ByHand)? .*)$/\1/p' crates/demands/proofs/Settled*.antt | awk '
+    sed -nE 's/^pub [^ ]+ : (Settles(All)? .*)$/\1/p' crates/demands/proofs/Settled*.antt | awk '
         {
             contract = $2
             sub(/\.ended$/, "", contract)
@@ -36,8 +35,7 @@ listed() {
             sub(/_contracts\./, ".", name)
             all = "SettlesAll " contract ".ended " name ".Reads.Pre " name ".Reads.Post"
             part = "Settles " contract ".ended " name ".Reads.Post"
-            hand = "SettlesByHand " contract ".ended (λ M. " contract ".clauses {M = M}) "
-            print ($0 == all || ($0 == part && name ~ /\.parts\./) || index($0, hand) == 1) ? name : $0
+            print ($0 == all || ($0 == part && name ~ /\.parts\./)) ? name : $0
         }' | sort
 }
 

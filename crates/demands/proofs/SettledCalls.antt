@@ -126,13 +126,16 @@ walker_new = (λ κs given. tt, λ κs given x y p q. ap (λ r. (r, _)) (begun_t
 pub walker_step : SettlesAll walker_contracts.Walker.step.ended walker.Walker.step.Reads.Pre walker.Walker.step.Reads.Post
 walker_step = (λ κs given. tt, λ κs given x y p q. ap (λ r. (r, _)) (step_told-once _ _ (alike p q)))
 
--- `next` is proved by hand, and of such a function the prover reads no clause off: its claim stands here, and is shown to be the clause
+pub walker_next : SettlesAll lent_contracts.next.ended lent.next.Reads.Pre lent.next.Reads.Post
+walker_next = (λ κs given. tt, λ κs given x y p q. ap (λ o. (o.0, (o.1, _))) (told-alike told_node node_told_once p q))
+
+-- the same of the clauses of `next` as they stand in any model of the logic, before the prover reads them: here is their claim
 abbrev next_ensures : Ensures lent_contracts.next.ended
 next_ensures κs (w, (weights, (heads, (registers, (links, (ends, (n, (m, none)))))))) r left =
     out (told_node r) left.0.now ≡ step (net weights.now heads.now registers.now links.now ends.now n m) w.now
 
-pub walker_next : SettlesByHand lent_contracts.next.ended (λ M. lent_contracts.next.clauses {M = M}) next_ensures
-walker_next =
+walker_next_written : SettlesByHand lent_contracts.next.ended (λ M 𝓤. lent_contracts.next.clauses {M = M} {𝓤 = 𝓤}) next_ensures
+walker_next_written =
     record {
       asks_nothing = λ M 𝓤 𝓛 mem run κs given ghost. refl;
       is_claim = λ M 𝓤 𝓛 mem run κs given ghost r s. refl;
