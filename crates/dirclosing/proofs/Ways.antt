@@ -5,9 +5,7 @@ use mathlib.Core.Path.{◌≡◌, refl, sym, ap, ◌∙◌}
 use mathlib.Core.Logic.{◌⊎◌, inl, inr, ⊎_elim}
 use mathlib.Core.Bool.{true, false}
 use mathlib.Core.List.{List}
-use native.Mathlib.Omega.{arith}
 use borrow.Author.Tests.{lt-ltb, ltb-true, leb-true}
-use denote.Enum.Declared.{tag_of}
 use lib.Dec.{ltb, leb}
 use lib.IntN.{pos}
 use lib.ListN.{length}
@@ -24,7 +22,6 @@ use Rattle.sound.specs.declared.Checked.{Checked}
 use Rattle.sound.specs.declared.Checked.TheVariants as Checked·
 use Rattle.sound.specs.Sound.{lists}
 use Rattle.sound.specs.Check.{accepted, is_sound}
-use Rattle.sound.specs.contracts.Checked as C
 use Rattle.sound.proofs.Exactly.{small, sound_accepted}
 use Rattle.stripping.specs.Heads.{stripped}
 use Rattle.closing.specs.declared.NodeRemoved.{NodeRemoved}
@@ -45,11 +42,11 @@ use Rattle.dirclosing.proofs.Kept.{sound_so}
 pub all_accepted : (f : Filed) (v : Checked) (rows : ℕ) → v ≡ checked_filed f → v ≡ Checked·.Accepted rows → is_sound_filed f ≡ true
 all_accepted f v rows p q = ap accepted (sym p ∙ q)
 
-pub not_accepted : (f : Filed) (v : Checked) → v ≡ checked_filed f → (tag_of C.the_type v ≡ 1) ⊎ (tag_of C.the_type v ≡ 2) → is_sound_filed f ≡ false
-not_accepted f v p k = ap accepted (sym p) ∙ go v k
+pub not_accepted : (f : Filed) (v : Checked) → v ≡ checked_filed f → ((rows : ℕ) → v ≡ Checked·.Accepted rows → ⊥) → is_sound_filed f ≡ false
+not_accepted f v p n = ap accepted (sym p) ∙ go v n
   where
-    go : (v : Checked) → (tag_of C.the_type v ≡ 1) ⊎ (tag_of C.the_type v ≡ 2) → accepted v ≡ false
-    go (Checked·.Accepted rows) k = absurd (⊎_elim (λ z. omega (arith, z)) (λ z. omega (arith, z)) k)
+    go : (v : Checked) → ((rows : ℕ) → v ≡ Checked·.Accepted rows → ⊥) → accepted v ≡ false
+    go (Checked·.Accepted rows) k = absurd (k rows refl)
     go (Checked·.Fault d a) k = refl
     go (Checked·.Refused why) k = refl
 
