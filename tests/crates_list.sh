@@ -8,11 +8,12 @@ failed=0
 uses() {
     local parts=()
     for part in "crates/$1/src" "crates/$1/specs" "crates/$1/proofs"; do [ ! -d "$part" ] || parts+=("$part"); done
-    grep -rqE "Rattle·$2([^a-z_]|\$)" "${parts[@]}" || grep -rqE "(^|[^a-z_])$2::|^ *use $2;" "crates/$1/src"
+    grep -rqE "Rattle\.$2([^a-z_]|\$)" "${parts[@]}" || grep -rqE "(^|[^a-z_])$2::|^ *use $2;" "crates/$1/src"
 }
 
 entries=0
 while IFS=: read -r name listed; do
+    name=${name% staticlib}
     for entry in $listed; do
         entries=$((entries + 1))
         uses "$name" "$entry" || { echo "crates.txt: $name lists $entry and does not use it"; failed=1; }

@@ -25,8 +25,8 @@ for page in "${pages[@]}"; do
     done
 done
 
-listed() { sed -nE 's/^([a-z]+):.*/\1/p' crates.txt | sort; }
-told() { sed -nE 's/^\| `([a-z]+)` \|.*/\1/p' docs/CRATES.md | sort; }
+listed() { sed -nE 's/^([a-z_]+)( staticlib)?:.*/\1/p' crates.txt | sort; }
+told() { sed -nE 's/^\| `([a-z_]+)` \|.*/\1/p' docs/CRATES.md | sort; }
 diff <(listed) <(told) || fail "docs/CRATES.md: '<' is a crate that it lacks, '>' is none"
 
 tests() {
