@@ -14,7 +14,7 @@ loop-k-init c =
 pub heads-init : goal.heads-init
 heads-init c =
     let i = c.loop-k.invariant in
-    let t = c.loop-k-test.true in
+    let t : c.loop-k.k < 2 = omega arith in
     (turned_begins _ _ _ _ _ _ _ _ _ _ _ i.0.alive, number_of-all _ t, t, refl, i.2)
 
 pub bounds-heads-index : goal.bounds-heads-index
