@@ -1,0 +1,20 @@
+use Rattle.std.proofs.Common.{◌≡◌, ◌/◌, length, refl, arith}
+use Rattle.loops.specs.Loops.{calls}
+use Rattle.loops.proofs.Laws.{calls-more}
+use Rattle.dirloops.proofs.loop_dir_add_edges.Goals as goal
+
+pub loop-i-init : goal.loop-i-init
+unfolding calls
+loop-i-init c = record { within = omega arith; stands = refl }
+
+pub loop-i-preserved : goal.loop-i-preserved
+loop-i-preserved c =
+    record {
+      within = omega arith;
+      stands = calls-more _ _ _ c.loop-i.invariant.stands c.add_edge-answer.ensures c.edge_adds.ensures c.wrapping_add_u64-sum.ensures.value;
+    }
+
+pub returns : goal.returns
+returns c =
+    let e : c.loop-i.i ≡ length c.args.edges.now / 3 = omega arith in
+    rw e at c.loop-i.invariant.stands
