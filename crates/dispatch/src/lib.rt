@@ -61,6 +61,7 @@ pub fn dispatch(
 }
 
 // The commands that take out.
+#[tactic(auto, unfolding(crate::specs::Step::step))]
 fn take_out(
     weights: &mut [i32],
     heads: &mut [u32],
