@@ -108,7 +108,11 @@ def turn_word(w, names, lib):
 
 
 def turn(text, names, lib):
-    return NAME.sub(lambda m: turn_word(m.group(0), names, lib), text)
+    """Outside strings."""
+    pieces = re.split(r'("(?:\\.|[^"\\\n])*")', text)
+    for i in range(0, len(pieces), 2):
+        pieces[i] = NAME.sub(lambda m: turn_word(m.group(0), names, lib), pieces[i])
+    return "".join(pieces)
 
 
 def turn_rt(text, names, lib):
