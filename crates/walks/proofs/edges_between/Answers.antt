@@ -5,6 +5,7 @@ use Rattle.tables.proofs.Guards.{guards}
 use Rattle.tables.proofs.Laws.{fitting}
 use Rattle.lists.specs.declared.Item.TheVariants.{Number}
 use Rattle.lists.specs.declared.Pick.TheVariants.{To, ToNot}
+use Rattle.legs.specs.declared.parts.Leg.{Leg}
 use Rattle.legs.specs.Legs.{leg_at}
 use Rattle.walks.specs.Walks.{edges_between}
 use Rattle.walks.proofs.Calls.{items_told, numbers-told}
@@ -32,5 +33,8 @@ pub returns : goal.returns
 unfolding edges_between
 returns c =
     let g : Net = net c.args.weights.now c.args.heads.now c.args.registers.now c.args.links.now c.args.ends.now c.args.n c.args.m in
-    let past : items_told g Number (leg_at g.heads 0 (To c.args.b) c.args.a.0) (leg_at g.heads 1 (ToNot c.args.b c.args.a) c.args.a.0) c.args.items.now ≡ edges_between g c.args.a.0 c.args.b.0 c.args.items.now = numbers-told g (leg_at g.heads 0 (To c.args.b) c.args.a.0) (leg_at g.heads 1 (ToNot c.args.b c.args.a) c.args.a.0) c.args.items.now ∙ search guards depth 9 in
+    let first : Leg = leg_at g.heads 0 (To c.args.b) c.args.a.0 in
+    let second : Leg = leg_at g.heads 1 (ToNot c.args.b c.args.a) c.args.a.0 in
+    let past : items_told g Number first second c.args.items.now ≡ edges_between g c.args.a.0 c.args.b.0 c.args.items.now =
+    numbers-told g first second c.args.items.now ∙ search guards depth 9 in
     rw (c.along-first.ensures, c.along-second.ensures) at c.walk.ensures ∙ past

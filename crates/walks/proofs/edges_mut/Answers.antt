@@ -5,6 +5,7 @@ use Rattle.tables.proofs.Guards.{guards}
 use Rattle.tables.proofs.Laws.{fitting}
 use Rattle.lists.specs.declared.Item.TheVariants.{Number}
 use Rattle.lists.specs.declared.Pick.TheVariants.{Every}
+use Rattle.legs.specs.declared.parts.Leg.{Leg}
 use Rattle.legs.specs.Legs.{leg_at}
 use Rattle.walks.specs.Walks.{edges_mut}
 use Rattle.walks.proofs.Calls.{items_told, numbers-turned}
@@ -32,5 +33,8 @@ pub returns : goal.returns
 unfolding edges_mut
 returns c =
     let g : Net = net c.args.weights.now c.args.heads.now c.args.registers.now c.args.links.now c.args.ends.now c.args.n c.args.m in
-    let past : items_told g Number (leg_at g.heads 1 Every c.args.a.0) (leg_at g.heads 0 Every c.args.a.0) c.args.items.now ≡ edges_mut g c.args.a.0 c.args.items.now = numbers-turned g (leg_at g.heads 1 Every c.args.a.0) (leg_at g.heads 0 Every c.args.a.0) c.args.items.now ∙ search guards depth 9 in
+    let first : Leg = leg_at g.heads 1 Every c.args.a.0 in
+    let second : Leg = leg_at g.heads 0 Every c.args.a.0 in
+    let past : items_told g Number first second c.args.items.now ≡ edges_mut g c.args.a.0 c.args.items.now =
+    numbers-turned g first second c.args.items.now ∙ search guards depth 9 in
     rw (c.along-first.ensures, c.along-second.ensures) at c.walk.ensures ∙ past
