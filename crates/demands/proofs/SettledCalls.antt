@@ -134,7 +134,7 @@ abbrev next_ensures : Ensures lent_contracts.next.ended
 next_ensures κs (w, (weights, (heads, (registers, (links, (ends, (n, (m, none)))))))) r left =
     out (told_node r) left.0.now ≡ step (net weights.now heads.now registers.now links.now ends.now n m) w.now
 
-walker_next_written : SettlesByHand lent_contracts.next.ended (λ M 𝓤. lent_contracts.next.clauses {M = M} {𝓤 = 𝓤}) next_ensures
+pub walker_next_written : SettlesByHand lent_contracts.next.ended (λ M 𝓤. lent_contracts.next.clauses {M = M} {𝓤 = 𝓤}) next_ensures
 walker_next_written =
     record {
       asks_nothing = λ M 𝓤 𝓛 mem run κs given ghost. refl;

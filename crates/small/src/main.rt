@@ -1,6 +1,6 @@
 // The check, first on one fault of each kind (faults.rt), then on every small table: n and m up to 2, each link and end
 // 0, 1, 2 or `END`. A line of these has n and m, how many networks there are, how many are accepted, the faults by direction
-// and node, others (none), and a hash of all answers in turn. An independent check, oracle/tests/small_tables.rs, works stdout
+// and node, others (none), and a hash of all answers in turn. An independent check, oracle/tests/small_tables.rs, works out
 // the same lines.
 #![tactic(auto)]
 
