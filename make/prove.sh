@@ -1,7 +1,7 @@
 #!/usr/bin/env bash
 # Proves the named crates and what they stand on (none named: all), the lowest first. Each is built where it is
 # proved: a library for the crates above it, a static library as out/libNAME.a of its folder, and a program as
-# out/NAME, which is run and held to its file stdout. Shows a line for each crate, with how many of how many and
+# out/NAME, which is run on its file stdin and held to its file stdout. Shows a line for each crate, with how many of how many and
 # about how long the rest takes, and all that is said of one that is not proved. The whole output is in
 # target/log/make.log. make/seconds.txt has what each crate took once (make/seconds.sh writes it).
 set -uo pipefail
@@ -40,9 +40,10 @@ reached() {
 # Proves and builds a crate. What is said of it is in target/log/NAME.out, and a program's output in
 # target/log/NAME.stdout.
 proved() {
-    local name=$1 out=$PWD/target/log/$1
+    local name=$1 out=$PWD/target/log/$1 input=/dev/null
     if [ "${kind[$name]}" = program ]; then
-        (cd "crates/$name" && rt run </dev/null 2>"$out.out" >"$out.stdout")
+        [ ! -f "crates/$name/stdin" ] || input=stdin
+        (cd "crates/$name" && rt run <"$input" 2>"$out.out" >"$out.stdout")
     else
         (cd "crates/$name" && rt lib </dev/null >"$out.out" 2>&1)
     fi

@@ -1,8 +1,11 @@
 // Answers the script on standard input: its answer lines, then `! 7` where one of them did not fit; alone `! 1` where the
-// script is too long. Which bytes these are is proved (`telling`); that they are read and written is the system's.
+// script is too long. Which bytes these are is proved (`telling`), and here that a reader is read and a writer written so, where
+// these tell what they have. What the system makes of standard input and output no contract can say.
 #![tactic(auto)]
 
-ghost use Rattle.std.specs.Prelude.{IfOk, ◌≤◌, length};
+ghost use Rattle.std.specs.Prelude.{◌≤◌, ◌<◌, IfOk, IfSome, OnOk, length, take};
+ghost use Rattle.std.specs.Io.KnownBytes.{Appends, Consumes, IsAtEnd};
+ghost use Rattle.telling.specs.Telling.{told_run};
 
 use script::MOST_BYTES;
 use std::io;
@@ -12,15 +15,24 @@ use telling::parts::{TOLD_BYTES, tell_run};
 // One byte more than a script may have: where it is read too, the script is too long.
 const ROOM: usize = MOST_BYTES + 1;
 
+// Why nothing was answered, or not all.
+#[derive(Clone, Copy)]
+enum Failed {
+    Reading,
+    Writing,
+}
+
 // Reads to the end, or until `script` is full, and answers how many bytes. A pipe gives it in pieces.
 fn read_script<R: Read>(input: &mut R, script: &mut [u8]) -> io::Result<usize>
-    ensures { IfOk result (λ n. n ≤ length script.new) }
+    ensures within { IfOk result (λ n. n ≤ length script.new) }
+    ensures bytes { IfOk result (λ n. Consumes (R.remaining input.old) (R.remaining input.new) (take n script.new)) }
+    ensures whole { IfOk result (λ n. n < length script.new → IsAtEnd (R.remaining input.new)) }
 {
     let mut at: usize = 0;
     while at < script.len() {
         let more = input.read(&mut script[at..])?;
         if more == 0 {
-            break;
+            return Ok(at);
         }
         at += more;
     }
@@ -46,24 +58,34 @@ fn read_rest<R: Read>(input: &mut R) {
     }
 }
 
+// Reads a script, and writes what is printed of its run.
+fn answer<R: Read, W: Write>(input: &mut R, out: &mut W) -> Result<(), Failed>
+    ensures { OnOk result (IfSome (R.remaining input.old) (λ script. Appends (W.contents out.old) (W.contents out.new) (told_run script))) }
+{
+    let mut script = [0u8; ROOM];
+    let Ok(got) = read_script(input, &mut script) else {
+        return Err(Failed::Reading);
+    };
+    if got == ROOM {
+        read_rest(input);
+    }
+    let mut told = [0u8; TOLD_BYTES];
+    let written = tell_run(&script[..got], &mut told);
+    match out.write_all(&told[..written]) {
+        Ok(()) => Ok(()),
+        Err(_) => Err(Failed::Writing),
+    }
+}
+
 // Tells on standard error what went wrong. Where that fails too, nobody is left to be told.
 fn complain(rt: &impl Eprint, what: &str) {
     let _ = rt.eprintln(what);
 }
 
 fn main(rt: HostRuntime) {
-    let mut input = rt.stdin();
-    let mut script = [0u8; ROOM];
-    let Ok(got) = read_script(&mut input, &mut script) else {
-        complain(&rt, "netrun: standard input cannot be read");
-        return;
-    };
-    if got == ROOM {
-        read_rest(&mut input);
-    }
-    let mut out = [0u8; TOLD_BYTES];
-    let written = tell_run(&script[..got], &mut out);
-    if Print::write_all(&rt, &out[..written]).is_err() {
-        complain(&rt, "netrun: standard output cannot be written");
+    match answer(&mut rt.stdin(), &mut io::writer(&rt)) {
+        Ok(()) => {}
+        Err(Failed::Reading) => complain(&rt, "netrun: standard input cannot be read"),
+        Err(Failed::Writing) => complain(&rt, "netrun: standard output cannot be written"),
     }
 }
