@@ -1,9 +1,9 @@
 #!/usr/bin/env bash
 # Proves the named crates and what they stand on (none named: all), the lowest first. Each is built where it is
 # proved: a library for the crates above it, a static library as out/libNAME.a of its folder, and a program as
-# out/NAME, which is run on its file stdin and held to its file stdout. Shows a line for each crate, with how many of how many and
-# about how long the rest takes, and all that is said of one that is not proved. The whole output is in
-# target/log/make.log. make/seconds.txt has what each crate took once (make/seconds.sh writes it).
+# out/NAME, which is run on its file stdin and held to its file stdout. Shows a line for each crate, with how
+# many of how many and about how long the rest takes, and all that is said of one that is not proved. The whole
+# output is in target/log/make.log. make/seconds.txt has what each crate took once (make/seconds.sh writes it).
 set -uo pipefail
 cd "$(dirname "${BASH_SOURCE[0]}")/.." || exit 2
 log=target/log/make.log
