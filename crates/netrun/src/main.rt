@@ -4,6 +4,7 @@
 #![tactic(auto)]
 
 ghost use Rattle.std.specs.Prelude.{◌≤◌, ◌<◌, IfOk, IfSome, OnOk, length, take};
+ghost use Rattle.std.specs.Io.{ReadsAtMost};
 ghost use Rattle.std.specs.Io.KnownBytes.{Appends, Consumes, IsAtEnd};
 ghost use Rattle.telling.specs.Telling.{told_run};
 
@@ -24,7 +25,7 @@ enum Failed {
 
 // Reads to the end, or until `script` is full, and answers how many bytes. A pipe gives it in pieces.
 fn read_script<R: Read>(input: &mut R, script: &mut [u8]) -> io::Result<usize>
-    ensures within { IfOk result (λ n. n ≤ length script.new) }
+    ensures within { ReadsAtMost result script.new }
     ensures bytes { IfOk result (λ n. Consumes (R.remaining input.old) (R.remaining input.new) (take n script.new)) }
     ensures whole { IfOk result (λ n. n < length script.new → IsAtEnd (R.remaining input.new)) }
 {

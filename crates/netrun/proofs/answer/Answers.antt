@@ -14,5 +14,5 @@ returns-in-Ok-write_all g c =
     _
     _
     (front _ _ _ _ c.tell_run-written.ensures)
-    (told_of_all _ _ c.read_script.new.script c.in-Ok.got long read.within read.bytes read.whole)
+    (told_of_all _ _ c.read_script.new.script c.in-Ok.got long read.within.0 read.bytes read.whole)
     c.in-Ok-write_all.ensures.bytes
