@@ -10,7 +10,7 @@ NETRUN = crates/netrun/out/netrun
 run: $(NETRUN)
 	@make/program.sh netrun < $(SCRIPT)
 
-# In seconds, by the sources as they are. Nothing is proved by it.
+# In half a minute, by the sources as they are. Nothing is proved by it.
 try:
 	@make/try.sh $(SCRIPT)
 

@@ -1,4 +1,4 @@
-use Rattle.std.proofs.Common.{◌<◌, length, rules}
+use Rattle.std.proofs.Common.{◌<◌, length, arith}
 use Rattle.script.specs.Script.{most_bytes}
 use Rattle.netrun.proofs.Told.{told_of_all, front, appended}
 use Rattle.netrun.proofs.answer.Goals as goal
@@ -6,7 +6,7 @@ use Rattle.netrun.proofs.answer.Goals as goal
 pub returns-in-Ok-write_all : goal.returns-in-Ok-write_all
 returns-in-Ok-write_all g c =
     let read = c.in-Ok.ensures in
-    let long : most_bytes < length c.read_script.new.script = search rules in
+    let long : most_bytes < length c.read_script.new.script = omega (arith, c.read_script.auto.script) in
     appended
     _
     _
