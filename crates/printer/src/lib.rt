@@ -33,7 +33,7 @@ fn write_digits<W: Write>(out: &mut W, x: u64) -> io::Result<()>
     Ok(())
 }
 
-// Prints x. Nothing is answered: where x could not be written, what is printed next fails too, and tells it.
+// Prints x. Nothing is answered: where x could not be written, a program learns it from its next write, if that fails as well.
 pub fn print_number(stdout: &Stdout, x: u64) {
     let _ = write_digits(&mut io::writer(stdout), x);
 }
