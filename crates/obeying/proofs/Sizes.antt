@@ -35,7 +35,8 @@ use Rattle.closing.specs.Closing.{Closed, closed_if_room, remove_node}
 use Rattle.stripping.specs.Heads.{Strip, strip, head_out, emptied, stripped}
 use Rattle.dropping.specs.Drop.{dropped}
 use Rattle.closing.proofs.NodeOuts.{node-out}
-use Rattle.commands.specs.Commands.{add_node_line, add_edge_line, update_edge_line, remove_edge_line, remove_node_line, neighbors_line, edges_line, edges_mut_line, edges_between_line, clear_edges_line, clear_line}
+use Rattle.commands.specs.Commands.{add_node_line, add_edge_line, update_edge_line, remove_edge_line, remove_node_line}
+use Rattle.commands.specs.Commands.{neighbors_line, edges_line, edges_mut_line, edges_between_line, clear_edges_line, clear_line}
 use Rattle.commands.proofs.Ways.{node_ways}
 use Rattle.dispatch.specs.declared.Numbers.{Numbers}
 use Rattle.dispatch.specs.Step.{State, step}
@@ -176,7 +177,8 @@ abbrev SameSizes : State → State → Type 0
 SameSizes s t = (length t.network.registers ≡ length s.network.registers) × KeepsThree s.tables t.tables
 
 step_sizes : (letter : ℕ) (o : Numbers) (s : State) → SameSizes s (step letter o s).after
-unfolding add_node_line add_edge_line update_edge_line remove_edge_line remove_node_line neighbors_line edges_line edges_mut_line edges_between_line clear_edges_line clear_line neighbors edges_mut edges_between
+unfolding add_node_line add_edge_line update_edge_line remove_edge_line remove_node_line
+    neighbors_line edges_line edges_mut_line edges_between_line clear_edges_line clear_line neighbors edges_mut edges_between
 step_sizes letter o s =
     let g = s.network in
     let t = s.tables.numbers in

@@ -70,7 +70,8 @@ done_to_a = refl
 pub bad_lines :
     run (bytes "Q\nn 1\nE 0 -1 5\nE 0 0 -5\nN 00000000001\nN 1 \n\nN +1\nE 0 0 4294967296\nS 1\nQ 1 2 3 4\nN 0000000001") 16384
     ≡ ran 0 (bytes "? 10\n? 10\n? 10\n? 10\n? 10\n? 10\n? 10\n? 10\n? 10\n? 10\n? 10\nN 0 0\n")
-unfolding run begun answers line_answer numbers_behind printed lines line_of digits spelt fields_text operands_of operands weight_operand fields before magnitude step fit add_node_line add_node with_node
+unfolding run begun answers line_answer numbers_behind printed lines line_of digits spelt fields_text operands_of
+    operands weight_operand fields before magnitude step fit add_node_line add_node with_node
 bad_lines = refl
 
 -- `-0` is a node weight; 4294967295 names no node and no edge, and refused lines don't stop the run
