@@ -32,7 +32,8 @@ pub fn remove_node(
     a: NodeIndex,
     items: &mut [u32],
 ) -> NodeRemoved
-    ensures { out (told_node_removed result) (leaving weights.new heads.new registers.new links.new ends.new n.new m.new, items.new) ≡ remove_node (entering weights.old heads.old registers.old links.old ends.old n.old m.old) a.0 items.old }
+    ensures { out (told_node_removed result) (leaving weights.new heads.new registers.new links.new ends.new n.new m.new, items.new)
+        ≡ remove_node (entering weights.old heads.old registers.old links.old ends.old n.old m.old) a.0 items.old }
 {
     let nodes = *n;
     let edges = *m;

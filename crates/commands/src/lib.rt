@@ -4,7 +4,8 @@
 ghost use Rattle.std.specs.Prelude.{◌≡◌};
 ghost use Rattle.tables.specs.Net.{entering, leaving};
 ghost use Rattle.legs.specs.Legs.{tables3};
-ghost use Rattle.commands.specs.Commands.{replied, add_node_line, add_edge_line, update_edge_line, find_edge_line, remove_edge_line, remove_node_line, neighbors_line, edges_line, edges_mut_line, edges_between_line, sum_around_line, check_line, clear_edges_line, clear_line};
+ghost use Rattle.commands.specs.Commands.{replied, add_node_line, add_edge_line, update_edge_line, find_edge_line, remove_edge_line, remove_node_line};
+ghost use Rattle.commands.specs.Commands.{neighbors_line, edges_line, edges_mut_line, edges_between_line, sum_around_line, check_line, clear_edges_line, clear_line};
 
 use closing::remove_node;
 use find::{find_edge, update_edge};

@@ -1,7 +1,7 @@
 // The directory of rows that were loaded: it is filled, and they stay; or all is left empty.
 ghost use Rattle.std.specs.Prelude.{◌≤◌, ◌≡◌, length};
 ghost use Rattle.index.specs.Refusals.{refusal_no};
-ghost use Rattle.tables.specs.Net.{entering, leaving, held};
+ghost use Rattle.tables.specs.Net.{entering, leaving, loan};
 ghost use Rattle.tables.specs.Answers.{out, told_change};
 ghost use Rattle.directory.specs.Directory.{register_in, filed};
 ghost use Rattle.dirimage.specs.Calls.{entries_left, filled_by};
@@ -17,7 +17,7 @@ use tables::parts::fill;
 // The rows are entered in turn. A number without a cell is 12 at once; one that is borne twice is 11, but only once every number has a cell.
 fn enter_rows(registers: &[u32], m: u32, directory: &mut [u32]) -> Claim
     requires { m ≤ length registers.now }
-    ensures { Enters (register_in registers.now) m (held directory.old directory.new) result }
+    ensures { Enters (register_in registers.now) m (loan directory.old directory.new) result }
 {
     fill(directory, EdgeIndex::END.0);
     let mut apart = true;
@@ -41,7 +41,7 @@ fn enter_rows(registers: &[u32], m: u32, directory: &mut [u32]) -> Claim
 // The directory becomes that of the rows; refused 12, 11, every entry is none.
 fn file(registers: &[u32], m: u32, directory: &mut [u32]) -> Claim
     requires { m ≤ length registers.now }
-    ensures { Files (register_in registers.now) m (held directory.old directory.new) result }
+    ensures { Files (register_in registers.now) m (loan directory.old directory.new) result }
 {
     let free = enter_rows(registers, m, directory);
     let Claim::Free = free else {

@@ -1,6 +1,6 @@
 // What the calls are made of: the tests, which change nothing, and the change of a number.
 ghost use Rattle.std.specs.Prelude.{◌≡◌, ◌<◌, length};
-ghost use Rattle.tables.specs.Net.{entering, held};
+ghost use Rattle.tables.specs.Net.{entering, loan};
 ghost use Rattle.dirrows.specs.Calls.{claimed};
 ghost use Rattle.dirrows.specs.Parts.{Adds, Reweighs};
 
@@ -64,7 +64,7 @@ pub fn free_for(directory: &[u32], w: u32, e: EdgeIndex) -> Claim
 // Row e gets number w, and its entry moves; refused 6, 12, 11.
 pub fn reweigh(registers: &mut [u32], directory: &mut [u32], e: EdgeIndex, w: u32) -> Claim
     requires { e.0 < length registers.old }
-    ensures { Reweighs (held registers.old registers.new) (held directory.old directory.new) e.0 w result }
+    ensures { Reweighs (loan registers.old registers.new) (loan directory.old directory.new) e.0 w result }
 {
     if !named(registers, directory, e) {
         return Claim::Refused(Refusal::Broken);

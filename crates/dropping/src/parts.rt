@@ -1,6 +1,6 @@
 // A node without edges is dropped.
 ghost use Rattle.std.specs.Prelude.{length};
-ghost use Rattle.tables.specs.Net.{held};
+ghost use Rattle.tables.specs.Net.{loan};
 ghost use Rattle.lists.specs.Parts.{Edges};
 ghost use Rattle.dropping.specs.Parts.{Renumbers, NodePair, MovesNode, Droppable, Drops};
 
@@ -11,7 +11,7 @@ use tables::parts::{EDGE_CELLS, INCOMING, NODE_CELLS, OUTGOING, write_node};
 // The rows from `link` on, in direction k, get node a as their end; each counts one.
 pub fn renumber(links: &[u32], ends: &mut [u32], m: u32, k: usize, link: u32, a: NodeIndex) -> u32
     requires { Edges (length links.now) (length ends.old) m k }
-    ensures { Renumbers links.now (held ends.old ends.new) m k link a.0 result }
+    ensures { Renumbers links.now (loan ends.old ends.new) m k link a.0 result }
 {
     let mut e = link;
     let mut rows = 0;
@@ -30,7 +30,7 @@ pub fn renumber(links: &[u32], ends: &mut [u32], m: u32, k: usize, link: u32, a:
 // Row b is copied over row a, and becomes vacant.
 pub fn move_node(weights: &mut [i32], heads: &mut [u32], a: usize, b: usize)
     requires { NodePair (length weights.old) (length heads.old) a b }
-    ensures { MovesNode (held weights.old weights.new) (held heads.old heads.new) a b }
+    ensures { MovesNode (loan weights.old weights.new) (loan heads.old heads.new) a b }
 {
     let weight = weights[b];
     let row = Node {
@@ -53,7 +53,7 @@ pub fn drop_node(
     a: NodeIndex,
 ) -> u32
     requires { Droppable (length weights.old) (length heads.old) (length links.now) (length ends.old) n.old m a.0 }
-    ensures { Drops (held weights.old weights.new) (held heads.old heads.new) links.now (held ends.old ends.new) (held n.old n.new) m a.0 result }
+    ensures { Drops (loan weights.old weights.new) (loan heads.old heads.new) links.now (loan ends.old ends.new) (loan n.old n.new) m a.0 result }
 {
     let last = *n - 1;
     let cell = NODE_CELLS * (last as usize);

@@ -1,6 +1,6 @@
 // Rows into bytes, and bytes into rows.
 ghost use Rattle.std.specs.Prelude.{◌≡◌, length};
-ghost use Rattle.tables.specs.Net.{entering, leaving, held};
+ghost use Rattle.tables.specs.Net.{entering, leaving, loan};
 ghost use Rattle.tables.specs.Parts.{NodeRow, EdgeRow};
 ghost use Rattle.layout.specs.Numbers.{placed};
 ghost use Rattle.layout.specs.Layout.{head_bytes, node_bytes, edge_bytes};
@@ -96,7 +96,7 @@ pub fn write(
 
 fn store_nodes(weights: &mut [i32], heads: &mut [u32], n: u32, bytes: &[u8])
     requires { NodesHeld (length weights.old) (length heads.old) (length bytes.now) n }
-    ensures { StoresNodes (held weights.old weights.new) (held heads.old heads.new) bytes.now n }
+    ensures { StoresNodes (loan weights.old weights.new) (loan heads.old heads.new) bytes.now n }
 {
     let rows = n as usize;
     let mut a = 0;
@@ -120,7 +120,7 @@ fn store_edges(
     bytes: &[u8],
 )
     requires { EdgesHeld (length registers.old) (length links.old) (length ends.old) (length bytes.now) n m }
-    ensures { StoresEdges (held registers.old registers.new) (held links.old links.new) (held ends.old ends.new) bytes.now n m }
+    ensures { StoresEdges (loan registers.old registers.new) (loan links.old links.new) (loan ends.old ends.new) bytes.now n m }
 {
     let first = HEAD_BYTES + NODE_BYTES * (n as usize);
     let rows = m as usize;

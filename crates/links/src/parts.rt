@@ -1,6 +1,6 @@
 // The links to an edge found and led elsewhere, a row moved.
 ghost use Rattle.std.specs.Prelude.{◌≡◌, length};
-ghost use Rattle.tables.specs.Net.{held};
+ghost use Rattle.tables.specs.Net.{loan};
 ghost use Rattle.links.specs.Links.{heads_at, links_at};
 ghost use Rattle.links.specs.Parts.{Start, Within, ChangesLink, ChangesLinks, Place, Places, Leads, Rows, MovesLast};
 
@@ -23,7 +23,7 @@ pub fn change_link(
     v: u32,
 ) -> Search
     requires { Start heads.old (length links.old) m k a.0 first }
-    ensures { ChangesLink (held heads.old heads.new) (held links.old links.new) m k a.0 e.0 v result }
+    ensures { ChangesLink (loan heads.old heads.new) (loan links.old links.new) m k a.0 e.0 v result }
 {
     if first == e.0 {
         heads[NODE_CELLS * a.index() + k] = v;
@@ -61,7 +61,7 @@ pub fn change_edge_links(
     w: u32,
 ) -> Located
     requires { Within (length heads.old) (length links.old) (length ends.now) n m e.0 }
-    ensures { ChangesLinks (held heads.old heads.new) (held links.old links.new) ends.now n m e.0 v w result }
+    ensures { ChangesLinks (loan heads.old heads.new) (loan links.old links.new) ends.now n m e.0 v w result }
 {
     let cell = EDGE_CELLS * e.index();
     let a = NodeIndex(ends[cell + SOURCE]);
@@ -104,7 +104,7 @@ pub fn relink(heads: &mut [u32], links: &mut [u32], k: usize, spot: Spot, v: u32
 // The outgoing link at s leads to v, the incoming one at t to w.
 pub fn lead(heads: &mut [u32], links: &mut [u32], s: Spot, t: Spot, v: u32, w: u32)
     requires { Places (length heads.old) (length links.old) s t }
-    ensures { Leads (held heads.old heads.new) (held links.old links.new) s t v w }
+    ensures { Leads (loan heads.old heads.new) (loan links.old links.new) s t v w }
 {
     relink(heads, links, OUTGOING, s, v);
     relink(heads, links, INCOMING, t, w);
@@ -119,7 +119,7 @@ pub fn move_last(
     last: EdgeIndex,
 )
     requires { Rows (length registers.old) (length links.old) (length ends.old) e.0 last.0 }
-    ensures { MovesLast (held registers.old registers.new) (held links.old links.new) (held ends.old ends.new) e.0 last.0 }
+    ensures { MovesLast (loan registers.old registers.new) (loan links.old links.new) (loan ends.old ends.new) e.0 last.0 }
 {
     let cell = EDGE_CELLS * last.index();
     let row = Edge {

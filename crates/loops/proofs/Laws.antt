@@ -30,7 +30,8 @@ total_onto (x ∷ xs) y = omega (arith, total_onto xs y)
 
 pub total-more : (xs : List ℕ) (i sum r : ℕ) → i < length xs → sum ≡ in64 (total (take i xs)) → r ≡ in64 (sum + get_or xs i 0) → r ≡ in64 (total (take (i + 1) xs))
 total-more xs i sum r l e w =
-    let q : total (take (i + 1) xs) ≡ total (take i xs) + get_or xs i 0 = ap (λ (k : ℕ). total (take k xs)) (add-one i) ∙ ap total (take-suc xs i 0 l) ∙ total_onto (take i xs) (get_or xs i 0) in
+    let q : total (take (i + 1) xs) ≡ total (take i xs) + get_or xs i 0 =
+    ap (λ (k : ℕ). total (take k xs)) (add-one i) ∙ ap total (take-suc xs i 0 l) ∙ total_onto (take i xs) (get_or xs i 0) in
     rw q (omega (arith, e, w))
 
 -- a walk gives no more items than its table holds

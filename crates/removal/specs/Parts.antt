@@ -1,6 +1,6 @@
 -- What the parts ask of their callers, and what they leave.
 use Rattle.std.specs.Prelude.{ℕ, ◌+◌, ◌-◌, ◌≤◌, ◌<◌, ◌≡◌, List, ℤ}
-use Rattle.tables.specs.Net.{Held, Lent, net}
+use Rattle.tables.specs.Net.{Loan, Lent, net}
 use Rattle.tables.specs.Answers.{out}
 use Rattle.lists.specs.declared.Spot.{Spot}
 use Rattle.links.specs.Links.{led}
@@ -22,7 +22,7 @@ pub record Gap (heads registers links ends n m e : ℕ) (s t : Spot) (rows : ℕ
 
 -- a removal has no part in the node weights: whatever they are, it leaves what its definition says
 abbrev pub Count : Type 0
-Count = Held ℕ
+Count = Loan ℕ
 
 abbrev pub TakesOut : (heads registers links ends : Lent ℕ) → ℕ → Count → ℕ → EdgeRemoved → Type 0
 TakesOut heads registers links ends n m e r =

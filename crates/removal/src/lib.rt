@@ -30,7 +30,8 @@ pub fn remove_edge(
     m: &mut u32,
     e: EdgeIndex,
 ) -> EdgeRemoved
-    ensures { out (told_edge_removed result) (leaving weights.now heads.new registers.new links.new ends.new n m.new) ≡ remove_edge (entering weights.now heads.old registers.old links.old ends.old n m.old) e.0 }
+    ensures { out (told_edge_removed result) (leaving weights.now heads.new registers.new links.new ends.new n m.new)
+        ≡ remove_edge (entering weights.now heads.old registers.old links.old ends.old n m.old) e.0 }
 {
     let edges = *m;
     if !fits(weights, heads, registers, links, ends, n, edges) {

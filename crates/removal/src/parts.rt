@@ -1,6 +1,6 @@
 // What the removal is made of: an edge bypassed, and the gap filled by the last row.
 ghost use Rattle.std.specs.Prelude.{length};
-ghost use Rattle.tables.specs.Net.{held};
+ghost use Rattle.tables.specs.Net.{loan};
 ghost use Rattle.removal.specs.Parts.{Removable, Gap, TakesOut, FillsGap};
 
 use crate::EdgeRemoved;
@@ -22,7 +22,7 @@ pub fn take_out(
     e: EdgeIndex,
 ) -> EdgeRemoved
     requires { Removable (length heads.old) (length registers.old) (length links.old) (length ends.old) n m.old e.0 }
-    ensures { TakesOut (held heads.old heads.new) (held registers.old registers.new) (held links.old links.new) (held ends.old ends.new) n (held m.old m.new) e.0 result }
+    ensures { TakesOut (loan heads.old heads.new) (loan registers.old registers.new) (loan links.old links.new) (loan ends.old ends.new) n (loan m.old m.new) e.0 result }
 {
     let edges = *m;
     let last = edges - 1;
@@ -57,7 +57,7 @@ pub fn fill_gap(
     rows: u32,
 ) -> EdgeRemoved
     requires { Gap (length heads.old) (length registers.old) (length links.old) (length ends.old) n m.old e.0 s t rows }
-    ensures { FillsGap (held heads.old heads.new) (held registers.old registers.new) (held links.old links.new) (held ends.old ends.new) n (held m.old m.new) e.0 s t rows result }
+    ensures { FillsGap (loan heads.old heads.new) (loan registers.old registers.new) (loan links.old links.new) (loan ends.old ends.new) n (loan m.old m.new) e.0 s t rows result }
 {
     let edges = *m;
     let last = EdgeIndex(edges - 1);

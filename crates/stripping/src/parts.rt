@@ -1,6 +1,6 @@
 // A node is stripped of its edges.
 ghost use Rattle.std.specs.Prelude.{length};
-ghost use Rattle.tables.specs.Net.{held};
+ghost use Rattle.tables.specs.Net.{loan};
 ghost use Rattle.stripping.specs.Parts.{Strippable, Strips};
 
 use index::{EdgeDirection, EdgeIndex, NodeIndex};
@@ -27,7 +27,7 @@ pub fn strip(
     items: &mut [u32],
 ) -> Stripped
     requires { Strippable heads.old registers.old links.old ends.old n m.old a.0 (length items.old) }
-    ensures { Strips (held heads.old heads.new) (held registers.old registers.new) (held links.old links.new) (held ends.old ends.new) n (held m.old m.new) a.0 (held items.old items.new) result }
+    ensures { Strips (loan heads.old heads.new) (loan registers.old registers.new) (loan links.old links.new) (loan ends.old ends.new) n (loan m.old m.new) a.0 (loan items.old items.new) result }
 {
     let mut rows: u64 = 0;
     let mut count: u32 = 0;

@@ -58,16 +58,16 @@ abbrev pub fits : Net → Bool
 fits g = fit (length g.weights) (length g.heads) (length g.registers) (length g.links) (length g.ends) g.n g.m
 
 -- what is lent to a call, as the call finds it and as it leaves it
-pub record Held (A : Type 0) : Type 0 where
+pub record Loan (A : Type 0) : Type 0 where
   pub old : A
   pub new : A
 
-abbrev pub held : {A : Type 0} → A → A → Held A
-held old new = record { old = old; new = new }
+abbrev pub loan : {A : Type 0} → A → A → Loan A
+loan old new = record { old = old; new = new }
 
 -- a column lent to a call
 abbrev pub Lent : Type 0 → Type 0
-Lent A = Held (List A)
+Lent A = Loan (List A)
 
 -- the network as a call finds it, and as the call leaves it
 abbrev pub entering : List ℤ → List ℕ → List ℕ → List ℕ → List ℕ → ℕ → ℕ → Net

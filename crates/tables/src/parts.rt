@@ -1,6 +1,6 @@
 // What the calls are made of. Only parts may demand something of their caller.
 ghost use Rattle.std.specs.Prelude.{◌≡◌, length, replicate, pos};
-ghost use Rattle.tables.specs.Net.{fits, entering, held};
+ghost use Rattle.tables.specs.Net.{fits, entering, loan};
 ghost use Rattle.tables.specs.Parts.{NodeRow, EdgeRow, WritesNode, WritesEdge, NodeSpan, EdgeSpan, VacatesNodes, VacatesEdges, Linkable, LinksEdge};
 
 use crate::row::{Edge, Node};
@@ -62,7 +62,7 @@ pub fn fits(
 
 pub fn write_node(weights: &mut [i32], heads: &mut [u32], a: usize, row: Node)
     requires { NodeRow (length weights.old) (length heads.old) a }
-    ensures { WritesNode (held weights.old weights.new) (held heads.old heads.new) a row }
+    ensures { WritesNode (loan weights.old weights.new) (loan heads.old heads.new) a row }
 {
     let w = row.weight;
     weights[a] = w;
@@ -72,7 +72,7 @@ pub fn write_node(weights: &mut [i32], heads: &mut [u32], a: usize, row: Node)
 
 pub fn write_edge(registers: &mut [u32], links: &mut [u32], ends: &mut [u32], e: usize, row: Edge)
     requires { EdgeRow (length registers.old) (length links.old) (length ends.old) e }
-    ensures { WritesEdge (held registers.old registers.new) (held links.old links.new) (held ends.old ends.new) e row }
+    ensures { WritesEdge (loan registers.old registers.new) (loan links.old links.new) (loan ends.old ends.new) e row }
 {
     registers[e] = row.weight;
     links[EDGE_CELLS * e + OUTGOING] = row.outgoing.0;
@@ -93,7 +93,7 @@ pub fn link_edge(
     w: u32,
 )
     requires { Linkable (length heads.old) (length registers.old) (length links.old) (length ends.old) e a.0 b.0 }
-    ensures { LinksEdge (held heads.old heads.new) (held registers.old registers.new) (held links.old links.new) (held ends.old ends.new) e a.0 b.0 w }
+    ensures { LinksEdge (loan heads.old heads.new) (loan registers.old registers.new) (loan links.old links.new) (loan ends.old ends.new) e a.0 b.0 w }
 {
     // Both heads are read before either is set, and the two cells differ: a self-loop needs no case.
     let outgoing = NODE_CELLS * (a.0 as usize) + OUTGOING;
@@ -147,7 +147,7 @@ pub fn copy(from: &[u32], cells: &mut [u32])
 // The node rows from `first` up to `last` become vacant.
 pub fn vacate_nodes(weights: &mut [i32], heads: &mut [u32], first: usize, last: usize)
     requires { NodeSpan (length weights.old) (length heads.old) first last }
-    ensures { VacatesNodes (held weights.old weights.new) (held heads.old heads.new) first last }
+    ensures { VacatesNodes (loan weights.old weights.new) (loan heads.old heads.new) first last }
 {
     fill_weights(&mut weights[first..last]);
     fill(
@@ -165,7 +165,7 @@ pub fn vacate_edges(
     last: usize,
 )
     requires { EdgeSpan (length registers.old) (length links.old) (length ends.old) first last }
-    ensures { VacatesEdges (held registers.old registers.new) (held links.old links.new) (held ends.old ends.new) first last }
+    ensures { VacatesEdges (loan registers.old registers.new) (loan links.old links.new) (loan ends.old ends.new) first last }
 {
     fill(&mut registers[first..last], 0);
     fill(

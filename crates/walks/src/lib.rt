@@ -173,7 +173,8 @@ pub fn edges(
     sources: &mut [u32],
     targets: &mut [u32],
 ) -> Items
-    ensures { out (told_items result) (tables3 numbers.new sources.new targets.new) ≡ edges (entering weights.now heads.now registers.now links.now ends.now n m) a.0 (tables3 numbers.old sources.old targets.old) }
+    ensures { out (told_items result) (tables3 numbers.new sources.new targets.new)
+        ≡ edges (entering weights.now heads.now registers.now links.now ends.now n m) a.0 (tables3 numbers.old sources.old targets.old) }
 {
     if !fits(weights, heads, registers, links, ends, n, m) {
         return Items::Refused(Refusal::Tables);
