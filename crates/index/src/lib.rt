@@ -5,12 +5,13 @@ ghost use Rattle.std.specs.Prelude.{◌≡◌};
 ghost use Rattle.index.specs.Index.{is_end, number_of, direction_of};
 ghost use Rattle.index.specs.Refusals.{refusal_no};
 
-// The number of a node row. A node number is never taken for an edge number.
-#[derive(Clone, Copy)]
+// The number of a node row. A node number is never taken for an edge number: two types, since one that is generic over what it numbers
+// would want a marker beside each number that is written down.
+#[derive(Clone, Copy, PartialEq, Eq)]
 pub struct NodeIndex(pub u32);
 
 // The number of an edge row.
-#[derive(Clone, Copy)]
+#[derive(Clone, Copy, PartialEq, Eq)]
 pub struct EdgeIndex(pub u32);
 
 impl NodeIndex {
@@ -26,7 +27,7 @@ impl NodeIndex {
     pub fn is_end(self) -> bool
         ensures { result ≡ is_end self.0 }
     {
-        self.0 == NodeIndex::END.0
+        self == NodeIndex::END
     }
 }
 
@@ -43,15 +44,15 @@ impl EdgeIndex {
     pub fn is_end(self) -> bool
         ensures { result ≡ is_end self.0 }
     {
-        self.0 == EdgeIndex::END.0
+        self == EdgeIndex::END
     }
 }
 
 // The two lists that every node has: its edges from it, and its edges to it.
-#[derive(Clone, Copy)]
+#[derive(Clone, Copy, PartialEq, Eq)]
 pub enum EdgeDirection {
-    Outgoing,
-    Incoming,
+    Outgoing = 0,
+    Incoming = 1,
 }
 
 impl EdgeDirection {
@@ -61,14 +62,13 @@ impl EdgeDirection {
     pub fn number(self) -> usize
         ensures { result ≡ number_of self }
     {
-        match self {
-            EdgeDirection::Outgoing => 0,
-            EdgeDirection::Incoming => 1,
-        }
+        self as usize
     }
+}
 
+impl From<usize> for EdgeDirection {
     // The direction of a row's cell k: the outgoing lists come first.
-    pub fn of(k: usize) -> EdgeDirection
+    fn from(k: usize) -> EdgeDirection
         ensures { result ≡ direction_of k }
     {
         if k == 0 {
@@ -80,51 +80,32 @@ impl EdgeDirection {
 }
 
 // Why a call changes nothing. `number` has the answer number of each; those from `NotBare` on no call gives yet.
-#[derive(Clone, Copy)]
+#[derive(Clone, Copy, PartialEq, Eq)]
 pub enum Refusal {
-    Tables,
-    Full,
-    NoNode,
-    NoEdge,
-    Nothing,
-    Broken,
-    Short,
-    NotImage,
-    Version,
-    NotCommand,
-    Taken,
-    Beyond,
-    NotBare,
-    NoRanking,
-    Outside,
-    TooDeep,
-    Fell,
-    Overflow,
+    Tables = 1,
+    Full = 2,
+    NoNode = 3,
+    NoEdge = 4,
+    Nothing = 5,
+    Broken = 6,
+    Short = 7,
+    NotImage = 8,
+    Version = 9,
+    NotCommand = 10,
+    Taken = 11,
+    Beyond = 12,
+    NotBare = 13,
+    NoRanking = 14,
+    Outside = 15,
+    TooDeep = 16,
+    Fell = 17,
+    Overflow = 18,
 }
 
 impl Refusal {
     pub fn number(self) -> u32
         ensures { result ≡ refusal_no self }
     {
-        match self {
-            Refusal::Tables => 1,
-            Refusal::Full => 2,
-            Refusal::NoNode => 3,
-            Refusal::NoEdge => 4,
-            Refusal::Nothing => 5,
-            Refusal::Broken => 6,
-            Refusal::Short => 7,
-            Refusal::NotImage => 8,
-            Refusal::Version => 9,
-            Refusal::NotCommand => 10,
-            Refusal::Taken => 11,
-            Refusal::Beyond => 12,
-            Refusal::NotBare => 13,
-            Refusal::NoRanking => 14,
-            Refusal::Outside => 15,
-            Refusal::TooDeep => 16,
-            Refusal::Fell => 17,
-            Refusal::Overflow => 18,
-        }
+        self as u32
     }
 }
