@@ -104,6 +104,8 @@ pub fn write_field(out: &mut [u8], at: usize, x: u64) -> usize
     write_number(out, to, x)
 }
 
+// Beside `write_field`: two lines each. One function over both would ask of a trait the text, and the write of it, that `write_number` and
+// `write_signed` have already.
 pub fn write_signed_field(out: &mut [u8], at: usize, z: i64) -> usize
     requires { at + length (field (signed z)) ≤ length out.old }
     ensures { Writes out.old out.new at (field (signed z)) result }
@@ -118,10 +120,8 @@ pub fn fields_width(fields: &[u32]) -> usize
     ensures { Measures (fields_text fields.now) (11 * length fields.now) result }
 {
     let mut wide: usize = 0;
-    let mut i = 0;
-    while i < fields.len() {
-        wide += 1 + width(fields[i] as u64);
-        i += 1;
+    for x in fields {
+        wide += 1 + width(*x as u64);
     }
     wide
 }
@@ -131,10 +131,8 @@ pub fn write_fields(out: &mut [u8], at: usize, fields: &[u32]) -> usize
     ensures { Writes out.old out.new at (fields_text fields.now) result }
 {
     let mut to = at;
-    let mut i = 0;
-    while i < fields.len() {
-        to = write_field(out, to, fields[i] as u64);
-        i += 1;
+    for x in fields {
+        to = write_field(out, to, *x as u64);
     }
     to
 }
