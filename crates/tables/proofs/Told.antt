@@ -1,95 +1,49 @@
 -- No two answers are told alike: number and values give the answer back.
-use Prim.{Unit}
+use Prim.{Unit, tt}
 use Prim.Native.Nat.{ℕ}
 use mathlib.Core.Path.{◌≡◌, refl, sym, ap, ◌∙◌}
 use lib.IntN.{ℤ, pos}
+use Rattle.std.proofs.Common.{Result, Ok, Err}
+use Rattle.index.specs.declared.NodeIndex.{NodeIndex}
+use Rattle.index.specs.declared.EdgeIndex.{EdgeIndex}
+use Rattle.index.specs.declared.Refusal.{Refusal}
 use Rattle.index.proofs.Laws.{untold, untold_refusal}
-use Rattle.tables.specs.Answers.{Told, told_node, told_edge, told_node_weight, told_edge_weight, told_ends, told_change, told_items}
-use Rattle.tables.specs.declared.answers.NodeAnswer.{NodeAnswer}
-use Rattle.tables.specs.declared.answers.NodeAnswer.TheVariants as NodeAnswer·
-use Rattle.tables.specs.declared.answers.EdgeAnswer.{EdgeAnswer}
-use Rattle.tables.specs.declared.answers.EdgeAnswer.TheVariants as EdgeAnswer·
-use Rattle.tables.specs.declared.answers.NodeWeight.{NodeWeight}
-use Rattle.tables.specs.declared.answers.NodeWeight.TheVariants as NodeWeight·
-use Rattle.tables.specs.declared.answers.EdgeWeight.{EdgeWeight}
-use Rattle.tables.specs.declared.answers.EdgeWeight.TheVariants as EdgeWeight·
-use Rattle.tables.specs.declared.answers.Endpoints.{Endpoints}
-use Rattle.tables.specs.declared.answers.Endpoints.TheVariants as Endpoints·
-use Rattle.tables.specs.declared.answers.Changed.{Changed}
-use Rattle.tables.specs.declared.answers.Changed.TheVariants as Changed·
-use Rattle.tables.specs.declared.answers.Items.{Items}
-use Rattle.tables.specs.declared.answers.Items.TheVariants as Items·
+use Rattle.tables.specs.Answers.{Told, told_as, told_node, told_edge, told_node_weight, told_edge_weight, told_ends, told_change, told_items}
 
 -- an answer that can be told back is told by no other
 pub told-once : {T R : Type 0} (told : R → T) (back : T → R) → ((r : R) → back (told r) ≡ r) → (r s : R) → told r ≡ told s → r ≡ s
 told-once told back is r s e = sym (is r) ∙ ap back e ∙ is s
 
-abbrev node-back : Told ℕ → NodeAnswer
-node-back t = untold (NodeAnswer·.Node (record { 0 = t.values })) NodeAnswer·.Refused t.number
+-- so is a `Result`, where its value can be
+module _ {A B : Type 0} (value : A → B) (zeros : B) (back : B → A) (is : (x : A) → back (value x) ≡ x) where
+  abbrev answer_back : Told B → Result A Refusal
+  answer_back t = untold (Ok (back t.values)) Err t.number
 
-node-is : (r : NodeAnswer) → node-back (told_node r) ≡ r
-node-is (NodeAnswer·.Node x) = refl
-node-is (NodeAnswer·.Refused why) = untold_refusal (NodeAnswer·.Node (record { 0 = 0 })) NodeAnswer·.Refused why
+  answer_is : (r : Result A Refusal) → answer_back (told_as value zeros r) ≡ r
+  answer_is (Ok x) = ap Ok (is x)
+  answer_is (Err why) = untold_refusal (Ok (back zeros)) Err why
 
-pub node_told_once : (r s : NodeAnswer) → told_node r ≡ told_node s → r ≡ s
-node_told_once = told-once told_node node-back node-is
+  pub told_as_once : (r s : Result A Refusal) → told_as value zeros r ≡ told_as value zeros s → r ≡ s
+  told_as_once = told-once (told_as value zeros) answer_back answer_is
 
-abbrev edge-back : Told ℕ → EdgeAnswer
-edge-back t = untold (EdgeAnswer·.Edge (record { 0 = t.values })) EdgeAnswer·.Refused t.number
+pub node_told_once : (r s : Result NodeIndex Refusal) → told_node r ≡ told_node s → r ≡ s
+node_told_once = told_as_once (λ (a : NodeIndex). a.0) 0 (λ x. record { 0 = x }) (λ a. refl)
 
-edge-is : (r : EdgeAnswer) → edge-back (told_edge r) ≡ r
-edge-is (EdgeAnswer·.Edge x) = refl
-edge-is (EdgeAnswer·.Refused why) = untold_refusal (EdgeAnswer·.Edge (record { 0 = 0 })) EdgeAnswer·.Refused why
+pub edge_told_once : (r s : Result EdgeIndex Refusal) → told_edge r ≡ told_edge s → r ≡ s
+edge_told_once = told_as_once (λ (e : EdgeIndex). e.0) 0 (λ x. record { 0 = x }) (λ e. refl)
 
-pub edge_told_once : (r s : EdgeAnswer) → told_edge r ≡ told_edge s → r ≡ s
-edge_told_once = told-once told_edge edge-back edge-is
+pub node_weight_told_once : (r s : Result ℤ Refusal) → told_node_weight r ≡ told_node_weight s → r ≡ s
+node_weight_told_once = told_as_once (λ (w : ℤ). w) (pos 0) (λ w. w) (λ w. refl)
 
-abbrev node_weight-back : Told ℤ → NodeWeight
-node_weight-back t = untold (NodeWeight·.Weight t.values) NodeWeight·.Refused t.number
+pub edge_weight_told_once : (r s : Result ℕ Refusal) → told_edge_weight r ≡ told_edge_weight s → r ≡ s
+edge_weight_told_once = told_as_once (λ (w : ℕ). w) 0 (λ w. w) (λ w. refl)
 
-node_weight-is : (r : NodeWeight) → node_weight-back (told_node_weight r) ≡ r
-node_weight-is (NodeWeight·.Weight x) = refl
-node_weight-is (NodeWeight·.Refused why) = untold_refusal (NodeWeight·.Weight (pos 0)) NodeWeight·.Refused why
+pub ends_told_once : (r s : Result (NodeIndex × NodeIndex) Refusal) → told_ends r ≡ told_ends s → r ≡ s
+ends_told_once =
+    told_as_once (λ (ends : NodeIndex × NodeIndex). (ends.0.0, ends.1.0)) (0, 0) (λ x. (record { 0 = x.0 }, record { 0 = x.1 })) (λ ends. refl)
 
-pub node_weight_told_once : (r s : NodeWeight) → told_node_weight r ≡ told_node_weight s → r ≡ s
-node_weight_told_once = told-once told_node_weight node_weight-back node_weight-is
+pub change_told_once : (r s : Result Unit Refusal) → told_change r ≡ told_change s → r ≡ s
+change_told_once = told_as_once (λ (u : Unit). tt) tt (λ u. u) (λ u. refl)
 
-abbrev edge_weight-back : Told ℕ → EdgeWeight
-edge_weight-back t = untold (EdgeWeight·.Weight t.values) EdgeWeight·.Refused t.number
-
-edge_weight-is : (r : EdgeWeight) → edge_weight-back (told_edge_weight r) ≡ r
-edge_weight-is (EdgeWeight·.Weight x) = refl
-edge_weight-is (EdgeWeight·.Refused why) = untold_refusal (EdgeWeight·.Weight 0) EdgeWeight·.Refused why
-
-pub edge_weight_told_once : (r s : EdgeWeight) → told_edge_weight r ≡ told_edge_weight s → r ≡ s
-edge_weight_told_once = told-once told_edge_weight edge_weight-back edge_weight-is
-
-abbrev ends_back : Told (ℕ × ℕ) → Endpoints
-ends_back t = untold (Endpoints·.Ends (record { 0 = t.values.0 }) (record { 0 = t.values.1 })) Endpoints·.Refused t.number
-
-ends_is : (r : Endpoints) → ends_back (told_ends r) ≡ r
-ends_is (Endpoints·.Ends x y) = refl
-ends_is (Endpoints·.Refused why) = untold_refusal (Endpoints·.Ends (record { 0 = 0 }) (record { 0 = 0 })) Endpoints·.Refused why
-
-pub ends_told_once : (r s : Endpoints) → told_ends r ≡ told_ends s → r ≡ s
-ends_told_once = told-once told_ends ends_back ends_is
-
-abbrev change_back : Told Unit → Changed
-change_back t = untold Changed·.Done Changed·.Refused t.number
-
-change_is : (r : Changed) → change_back (told_change r) ≡ r
-change_is Changed·.Done = refl
-change_is (Changed·.Refused why) = untold_refusal Changed·.Done Changed·.Refused why
-
-pub change_told_once : (r s : Changed) → told_change r ≡ told_change s → r ≡ s
-change_told_once = told-once told_change change_back change_is
-
-abbrev items_back : Told ℕ → Items
-items_back t = untold (Items·.Count t.values) Items·.Refused t.number
-
-items_is : (r : Items) → items_back (told_items r) ≡ r
-items_is (Items·.Count x) = refl
-items_is (Items·.Refused why) = untold_refusal (Items·.Count 0) Items·.Refused why
-
-pub items_told_once : (r s : Items) → told_items r ≡ told_items s → r ≡ s
-items_told_once = told-once told_items items_back items_is
+pub items_told_once : (r s : Result ℕ Refusal) → told_items r ≡ told_items s → r ≡ s
+items_told_once = told_as_once (λ (c : ℕ). c) 0 (λ c. c) (λ c. refl)

@@ -1,23 +1,11 @@
 -- What an answer tells: the order's number for it, and its values. A refusal tells its number and zeros.
 use Prim.{Unit, tt}
-use Rattle.std.specs.Prelude.{ℕ, Bool, cond, List, ◌++◌, leb, ℤ, pos, length, drop}
+use Rattle.std.specs.Prelude.{ℕ, Bool, cond, List, ◌++◌, leb, ℤ, pos, length, drop, Result, Ok, Err}
+use Rattle.index.specs.declared.NodeIndex.{NodeIndex}
+use Rattle.index.specs.declared.EdgeIndex.{EdgeIndex}
 use Rattle.index.specs.declared.Refusal.{Refusal}
 use Rattle.index.specs.declared.Refusal.TheVariants.{Short}
 use Rattle.index.specs.Refusals.{refusal_no}
-use Rattle.tables.specs.declared.answers.NodeAnswer.{NodeAnswer}
-use Rattle.tables.specs.declared.answers.NodeAnswer.TheVariants as NodeAnswer·
-use Rattle.tables.specs.declared.answers.EdgeAnswer.{EdgeAnswer}
-use Rattle.tables.specs.declared.answers.EdgeAnswer.TheVariants as EdgeAnswer·
-use Rattle.tables.specs.declared.answers.NodeWeight.{NodeWeight}
-use Rattle.tables.specs.declared.answers.NodeWeight.TheVariants as NodeWeight·
-use Rattle.tables.specs.declared.answers.EdgeWeight.{EdgeWeight}
-use Rattle.tables.specs.declared.answers.EdgeWeight.TheVariants as EdgeWeight·
-use Rattle.tables.specs.declared.answers.Endpoints.{Endpoints}
-use Rattle.tables.specs.declared.answers.Endpoints.TheVariants as Endpoints·
-use Rattle.tables.specs.declared.answers.Changed.{Changed}
-use Rattle.tables.specs.declared.answers.Changed.TheVariants as Changed·
-use Rattle.tables.specs.declared.answers.Items.{Items}
-use Rattle.tables.specs.declared.answers.Items.TheVariants as Items·
 
 pub record Told (A : Type 0) : Type 0 where
   pub number : ℕ
@@ -51,33 +39,31 @@ give items table =
     unless (leb (length items) (length table)) (out (refused Short 0) table)
     (out (done (length items)) (onto items table))
 
+-- what a call answers, told: its value as the order has it, or zeros
+abbrev pub told_as : {A B : Type 0} → (A → B) → B → Result A Refusal → Told B
+told_as value zeros (Ok x) = done (value x)
+told_as value zeros (Err why) = refused why zeros
+
 -- the values of each kind of answer
-abbrev pub told_node : NodeAnswer → Told ℕ
-told_node (NodeAnswer·.Node a) = done a.0
-told_node (NodeAnswer·.Refused why) = refused why 0
+abbrev pub told_node : Result NodeIndex Refusal → Told ℕ
+told_node = told_as (λ (a : NodeIndex). a.0) 0
 
-abbrev pub told_edge : EdgeAnswer → Told ℕ
-told_edge (EdgeAnswer·.Edge e) = done e.0
-told_edge (EdgeAnswer·.Refused why) = refused why 0
+abbrev pub told_edge : Result EdgeIndex Refusal → Told ℕ
+told_edge = told_as (λ (e : EdgeIndex). e.0) 0
 
-abbrev pub told_node_weight : NodeWeight → Told ℤ
-told_node_weight (NodeWeight·.Weight w) = done w
-told_node_weight (NodeWeight·.Refused why) = refused why (pos 0)
+abbrev pub told_node_weight : Result ℤ Refusal → Told ℤ
+told_node_weight = told_as (λ (w : ℤ). w) (pos 0)
 
-abbrev pub told_edge_weight : EdgeWeight → Told ℕ
-told_edge_weight (EdgeWeight·.Weight w) = done w
-told_edge_weight (EdgeWeight·.Refused why) = refused why 0
+abbrev pub told_edge_weight : Result ℕ Refusal → Told ℕ
+told_edge_weight = told_as (λ (w : ℕ). w) 0
 
 -- source, then target
-abbrev pub told_ends : Endpoints → Told (ℕ × ℕ)
-told_ends (Endpoints·.Ends a b) = done (a.0, b.0)
-told_ends (Endpoints·.Refused why) = refused why (0, 0)
+abbrev pub told_ends : Result (NodeIndex × NodeIndex) Refusal → Told (ℕ × ℕ)
+told_ends = told_as (λ (ends : NodeIndex × NodeIndex). (ends.0.0, ends.1.0)) (0, 0)
 
-abbrev pub told_change : Changed → Told Unit
-told_change Changed·.Done = done tt
-told_change (Changed·.Refused why) = refused why tt
+abbrev pub told_change : Result Unit Refusal → Told Unit
+told_change = told_as (λ (u : Unit). tt) tt
 
 -- how many items were given
-abbrev pub told_items : Items → Told ℕ
-told_items (Items·.Count c) = done c
-told_items (Items·.Refused why) = refused why 0
+abbrev pub told_items : Result ℕ Refusal → Told ℕ
+told_items = told_as (λ (c : ℕ). c) 0

@@ -1,4 +1,5 @@
 -- The network as the caller lends it: five columns and two counts.
+use Rattle.tables.specs.declared.network.Network.{Network}
 use Rattle.std.specs.Prelude.{ℕ, ◌+◌, ◌*◌, Bool, ◌&&◌, List, leb, eqb, ℤ, length}
 
 pub record Net : Type 0 where
@@ -56,6 +57,10 @@ fit weights heads registers links ends n m =
 
 abbrev pub fits : Net → Bool
 fits g = fit (length g.weights) (length g.heads) (length g.registers) (length g.links) (length g.ends) g.n g.m
+
+-- what is lent to a call that changes nothing
+abbrev pub net_of : Network → Net
+net_of g = net g.weights.now g.heads.now g.registers.now g.links.now g.ends.now g.n g.m
 
 -- what is lent to a call, as the call finds it and as it leaves it
 pub record Loan (A : Type 0) : Type 0 where

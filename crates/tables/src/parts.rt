@@ -1,5 +1,5 @@
 // What the calls are made of. Only parts may demand something of their caller.
-ghost use Rattle.std.specs.Prelude.{◌≡◌, length, replicate, pos};
+ghost use Rattle.std.specs.Prelude.{◌≡◌, length};
 ghost use Rattle.tables.specs.Net.{fits, entering, loan};
 ghost use Rattle.tables.specs.Parts.{NodeRow, EdgeRow, WritesNode, WritesEdge, NodeSpan, EdgeSpan, VacatesNodes, VacatesEdges, Linkable, LinksEdge};
 
@@ -16,7 +16,8 @@ pub const NODE_CELLS: usize = 2;
 
 pub const EDGE_CELLS: usize = 2;
 
-// Which of a row's cells: of its links, the two lists; of its ends, the nodes that have it in these.
+// Which of a row's cells: of its links, the two lists; of its ends, the nodes that have it in these. Parts take such a cell's place k as
+// the number it is, not as an `EdgeDirection`: it is added to a row's first cell, and 1 - k is the other.
 pub const OUTGOING: usize = 0;
 
 pub const INCOMING: usize = 1;
@@ -110,50 +111,13 @@ pub fn link_edge(
     heads[incoming] = e;
 }
 
-// Every cell becomes x.
-pub fn fill(cells: &mut [u32], x: u32)
-    ensures { cells.new ≡ replicate (length cells.old) x }
-{
-    let mut i = 0;
-    while i < cells.len() {
-        cells[i] = x;
-        i += 1;
-    }
-}
-
-// Every weight becomes 0.
-pub fn fill_weights(cells: &mut [i32])
-    ensures { cells.new ≡ replicate (length cells.old) (pos 0) }
-{
-    let mut i = 0;
-    while i < cells.len() {
-        cells[i] = 0;
-        i += 1;
-    }
-}
-
-// The cells become those of a column of the same length.
-pub fn copy(from: &[u32], cells: &mut [u32])
-    requires { length from.now ≡ length cells.old }
-    ensures { cells.new ≡ from.now }
-{
-    let mut i = 0;
-    while i < cells.len() {
-        cells[i] = from[i];
-        i += 1;
-    }
-}
-
 // The node rows from `first` up to `last` become vacant.
 pub fn vacate_nodes(weights: &mut [i32], heads: &mut [u32], first: usize, last: usize)
     requires { NodeSpan (length weights.old) (length heads.old) first last }
     ensures { VacatesNodes (loan weights.old weights.new) (loan heads.old heads.new) first last }
 {
-    fill_weights(&mut weights[first..last]);
-    fill(
-        &mut heads[NODE_CELLS * first..NODE_CELLS * last],
-        EdgeIndex::END.0,
-    );
+    weights[first..last].fill(0);
+    heads[NODE_CELLS * first..NODE_CELLS * last].fill(EdgeIndex::END.0);
 }
 
 // The edge rows from `first` up to `last` become vacant.
@@ -167,13 +131,7 @@ pub fn vacate_edges(
     requires { EdgeSpan (length registers.old) (length links.old) (length ends.old) first last }
     ensures { VacatesEdges (loan registers.old registers.new) (loan links.old links.new) (loan ends.old ends.new) first last }
 {
-    fill(&mut registers[first..last], 0);
-    fill(
-        &mut links[EDGE_CELLS * first..EDGE_CELLS * last],
-        EdgeIndex::END.0,
-    );
-    fill(
-        &mut ends[EDGE_CELLS * first..EDGE_CELLS * last],
-        NodeIndex::END.0,
-    );
+    registers[first..last].fill(0);
+    links[EDGE_CELLS * first..EDGE_CELLS * last].fill(EdgeIndex::END.0);
+    ends[EDGE_CELLS * first..EDGE_CELLS * last].fill(NodeIndex::END.0);
 }
