@@ -3,17 +3,21 @@ use Prim.Native.Nat.{ℕ, zero, suc, ◌+◌, ◌≤◌, ◌<◌}
 use mathlib.Core.Path.{◌≡◌, refl, sym, ap, ◌∙◌}
 use mathlib.Core.Bool.{Bool, true, false, ◌&&◌}
 use mathlib.Core.List.{List}
-use native.Mathlib.Nat.{not-suc-le-zero}
+use native.Mathlib.Nat.{not-suc-le-zero, zero-add}
 use native.Mathlib.Numerals.{add-one}
 use native.Mathlib.Decide.{ℕ_discrete}
 use native.Mathlib.Omega.{arith}
 use borrow.Author.Tests.{eq-eqb, ne_eqb, lt-ltb, le-ltb, eqb-true, ltb-true}
 use lib.Dec.{eqb, ltb}
-use lib.ListN.{length, get_or, set}
+use lib.ListN.{length, get_or, set, take}
+use Rattle.std.specs.List.{list_all, range_with_len, enumerate_from}
+use lib.Seq.{take-length}
+use Rattle.std.proofs.lemmas.List.Folds.{list_all_more}
+use Rattle.std.proofs.lemmas.List.FromFn.{length-range_with_len, get_or-range_with_len, length-enumerate_from, get_or-enumerate_from}
 use Rattle.index.specs.Index.{END}
 use Rattle.tables.proofs.Laws.{both}
 use Rattle.directory.specs.Directory.{entry, Right, every, row_named, bears, stands, entry_stands, rows_named, entries_stand, is_right, followed, register_in}
-use Rattle.directory.proofs.Laws.{inside, same_default}
+use Rattle.directory.proofs.Laws.{inside}
 
 and_false : (a b : Bool) → b ≡ false → (a && b) ≡ false
 and_false true b h = h
@@ -85,30 +89,34 @@ module _ (number : ℕ → ℕ) (m : ℕ) (d : List ℕ) where
             ]),
       )
 
--- the loops over rows and over entries: one fails, one more passes, all pass
+-- a test of each element of a list, where the element at a place stands for the place
+pub every_listed : {X : Type 0} (p : X → Bool) (test : ℕ → Bool) (xs : List X) (d : X) → ((k : ℕ) → k < length xs → p (get_or xs k d) ≡ test k)
+    → (i : ℕ) → i ≤ length xs → list_all p (take i xs) ≡ every test i
+unfolding every
+every_listed p test xs d s zero h = refl
+every_listed p test xs d s (suc i) h =
+    rw (← add-one i, list_all_more p xs i d (omega arith), every_listed p test xs d s i (omega arith), s i (omega arith))
+
+-- of a whole list, of n elements
+all_listed : {X : Type 0} (p : X → Bool) (test : ℕ → Bool) (xs : List X) (d : X) (n : ℕ) → length xs ≡ n
+    → ((k : ℕ) → k < length xs → p (get_or xs k d) ≡ test k) → list_all p xs ≡ every test n
+all_listed p test xs d n q s =
+    rw (← q) (ap (list_all p) (sym (take-length xs)) ∙ every_listed p test xs d s (length xs) (omega arith))
+
+-- the tests of all rows and of all entries, as the iterators come to them
 module _ (number : ℕ → ℕ) (m : ℕ) (d : List ℕ) where
-  pub row_fails : (e x : ℕ) → e < m → x ≡ entry d (number e) → (x ≡ e → ⊥) → false ≡ rows_named number m d
+  pub rows_listed : list_all (row_named number d) (range_with_len 0 m) ≡ rows_named number m d
   unfolding rows_named
-  row_fails e x h q n = sym (not_every (row_named number d) m e h (ne_eqb (entry d (number e)) e (λ z. n (q ∙ z))))
+  rows_listed =
+      all_listed (row_named number d) (row_named number d) (range_with_len 0 m) 0 m (length-range_with_len 0 m) (λ k h.
+      ap (row_named number d) (get_or-range_with_len 0 m k 0 (omega (arith, length-range_with_len 0 m)) ∙ zero-add k))
 
-  pub row_passes : (e x : ℕ) → every (row_named number d) e ≡ true → x ≡ entry d (number e) → x ≡ e → every (row_named number d) (e + 1) ≡ true
-  row_passes e x p q z = every_more (row_named number d) e p (eq-eqb (entry d (number e)) e (sym q ∙ z))
-
-  pub rows_pass : (e : ℕ) → every (row_named number d) e ≡ true → e ≤ m → m ≤ e → true ≡ rows_named number m d
-  unfolding rows_named
-  rows_pass e p h l = let q : e ≡ m = omega arith in sym (rw q at p)
-
-  pub entry_fails : (r : ℕ) → r < length d → stands number m (get_or d r 0) r ≡ false → false ≡ entries_stand number m d
+  pub entries_listed : list_all (λ p. stands number m p.1 p.0) (enumerate_from 0 d) ≡ entries_stand number m d
   unfolding entries_stand
-  entry_fails r h q = sym (not_every (entry_stands number m d) (length d) r h (ap (λ x. stands number m x r) (same_default d r END 0 h) ∙ q))
-
-  pub entry_passes : (r : ℕ) → every (entry_stands number m d) r ≡ true → r < length d → stands number m (get_or d r 0) r ≡ true
-      → every (entry_stands number m d) (r + 1) ≡ true
-  entry_passes r p h q = every_more (entry_stands number m d) r p (ap (λ x. stands number m x r) (same_default d r END 0 h) ∙ q)
-
-  pub entries_pass : (r : ℕ) → every (entry_stands number m d) r ≡ true → r ≤ length d → length d ≤ r → true ≡ entries_stand number m d
-  unfolding entries_stand
-  entries_pass r p h l = let q : r ≡ length d = omega arith in sym (rw q at p)
+  entries_listed =
+      all_listed (λ (p : ℕ × ℕ). stands number m p.1 p.0) (entry_stands number m d) (enumerate_from 0 d) (0, END) (length d) (length-enumerate_from 0 d)
+      (λ k h. ap (λ (p : ℕ × ℕ). stands number m p.1 p.0)
+      (get_or-enumerate_from 0 d k (0, END) (omega (arith, length-enumerate_from 0 d)) ∙ ap (λ (x : ℕ). (x, entry d k)) (zero-add k)))
 
 -- what the cells set after a removal come to
 pub follow_on : (registers d c b : List ℕ) (m w e i : ℕ) → c ≡ set d w END → b ≡ set c (get_or registers i 0) e → i ≡ e → e < m

@@ -8,20 +8,19 @@ use index::EdgeIndex;
 pub fn entry(directory: &[u32], r: u32) -> EdgeIndex
     ensures { result.0 ≡ entry directory.now r }
 {
-    if directory.len() <= r as usize {
-        return EdgeIndex::END;
+    match directory.get(r as usize) {
+        Some(&e) => EdgeIndex(e),
+        None => EdgeIndex::END,
     }
-    EdgeIndex(directory[r as usize])
 }
 
 // Number r stands in row e, or in none, `END`. Where the directory has no cell for it nothing changes.
 pub fn enter(directory: &mut [u32], r: u32, e: EdgeIndex)
     ensures { directory.new ≡ set directory.old r e.0 }
 {
-    if directory.len() <= r as usize {
-        return;
+    if (r as usize) < directory.len() {
+        directory[r as usize] = e.0;
     }
-    directory[r as usize] = e.0;
 }
 
 // The entry of row e's number names it.
@@ -29,8 +28,7 @@ pub fn named(registers: &[u32], directory: &[u32], e: EdgeIndex) -> bool
     requires { e.0 < length registers.now }
     ensures { result ≡ row_named (register_in registers.now) directory.now e.0 }
 {
-    let found = entry(directory, registers[e.index()]);
-    found.0 == e.0
+    entry(directory, registers[e.index()]) == e
 }
 
 // Each row's entry names it.
@@ -38,15 +36,7 @@ pub fn rows_named(registers: &[u32], m: u32, directory: &[u32]) -> bool
     requires { m ≤ length registers.now }
     ensures { result ≡ rows_named (register_in registers.now) m directory.now }
 {
-    let mut e: u32 = 0;
-    while e < m {
-        let named = entry(directory, registers[e as usize]);
-        if named.0 != e {
-            return false;
-        }
-        e += 1;
-    }
-    true
+    (0..m).all(|e| named(registers, directory, EdgeIndex(e)))
 }
 
 // Row x is in use, and bears number r.
@@ -54,10 +44,7 @@ pub fn bears(registers: &[u32], m: u32, x: EdgeIndex, r: usize) -> bool
     requires { m ≤ length registers.now }
     ensures { result ≡ bears (register_in registers.now) m x.0 r }
 {
-    if m <= x.0 {
-        return false;
-    }
-    registers[x.index()] as usize == r
+    x.0 < m && registers[x.index()] as usize == r
 }
 
 // An entry of number r that is none, or names a row that bears it.
@@ -65,10 +52,7 @@ pub fn stands(registers: &[u32], m: u32, x: EdgeIndex, r: usize) -> bool
     requires { m ≤ length registers.now }
     ensures { result ≡ stands (register_in registers.now) m x.0 r }
 {
-    if x.is_end() {
-        return true;
-    }
-    bears(registers, m, x, r)
+    x.is_end() || bears(registers, m, x, r)
 }
 
 // Each entry is none, or names a row that bears its number.
@@ -76,15 +60,10 @@ pub fn entries_stand(registers: &[u32], m: u32, directory: &[u32]) -> bool
     requires { m ≤ length registers.now }
     ensures { result ≡ entries_stand (register_in registers.now) m directory.now }
 {
-    let mut r: usize = 0;
-    while r < directory.len() {
-        let x = EdgeIndex(directory[r]);
-        if !stands(registers, m, x, r) {
-            return false;
-        }
-        r += 1;
-    }
-    true
+    directory
+        .iter()
+        .enumerate()
+        .all(|(r, &x)| stands(registers, m, EdgeIndex(x), r))
 }
 
 // The directory is right for these rows.
@@ -92,10 +71,7 @@ pub fn is_right(registers: &[u32], m: u32, directory: &[u32]) -> bool
     requires { m ≤ length registers.now }
     ensures { result ≡ is_right (register_in registers.now) m directory.now }
 {
-    if !rows_named(registers, m, directory) {
-        return false;
-    }
-    entries_stand(registers, m, directory)
+    rows_named(registers, m, directory) && entries_stand(registers, m, directory)
 }
 
 // The edge of row e, which bore number w, is out, and m rows are left: w stands in none, and the row that is e now, if one is, has its entry there.

@@ -1,26 +1,13 @@
-use Rattle.std.proofs.Common.{sym, arith}
-use Rattle.directory.specs.Directory.{register_in}
-use Rattle.directory.proofs.Every.{every-none, entry_fails, entry_passes, entries_pass}
+use Rattle.std.proofs.Common.{◌∙◌, rules, tests}
+use Rattle.std.proofs.lemmas.Iterator.{YieldsList-from_slice}
+use Rattle.std.proofs.lemmas.Iterator.Consumers.{YieldsList-from_enumerate}
+use Rattle.std.proofs.lemmas.Iterator.Search.{all_from_yields_List}
+use Rattle.directory.specs.Directory.{register_in, stands}
+use Rattle.directory.proofs.Every.{entries_listed}
 use Rattle.directory.proofs.parts.entries_stand.Goals as goal
-
-pub loop-r-init : goal.loop-r-init
-loop-r-init c = record { within = omega arith; stand = every-none _ }
-
-pub returns-then-not-stands : goal.returns-then-not-stands
-returns-then-not-stands c =
-    entry_fails (register_in c.args.registers.now) _ c.args.directory.now c.loop-r.r c.loop-r-test.true (sym c.if-not-stands.ensures)
-
-pub loop-r-preserved : goal.loop-r-preserved
-loop-r-preserved c =
-    let l = c.loop-r in
-    record {
-      within = omega arith;
-      stand =
-          entry_passes (register_in c.args.registers.now) c.args.m c.args.directory.now l.r l.invariant.stand c.loop-r-test.true
-          (sym c.if-not-stands.ensures);
-    }
 
 pub returns : goal.returns
 returns c =
-    let i = c.loop-r.invariant in
-    entries_pass (register_in c.args.registers.now) _ c.args.directory.now _ i.stand i.within c.loop-r-test.false
+    all_from_yields_List (λ p. stands (register_in c.args.registers.now) c.args.m p.1 p.0) _ _ _ c.all.ensures.ran
+    (YieldsList-from_enumerate (YieldsList-from_slice c.args.directory.now cc) cc) (λ x b q k. search (rules, tests))
+    ∙ entries_listed (register_in c.args.registers.now) c.args.m c.args.directory.now
