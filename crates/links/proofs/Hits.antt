@@ -6,14 +6,13 @@ use native.Mathlib.Nat.{zero-add}
 use native.Mathlib.Decide.{ℕ_discrete, dec_lt}
 use native.Mathlib.Omega.{arith}
 use borrow.Author.Tests.{ne_eqb, lt-ltb, le-ltb}
+use Rattle.std.specs.Prelude.{Some, None}
+use Rattle.std.proofs.lemmas.Option.{none-some, some_pair_parts}
 use Rattle.tables.specs.Net.{node_cells, edge_cells}
 use Rattle.lists.specs.declared.Spot.{Spot}
 use Rattle.lists.specs.declared.Spot.TheVariants.{Head, After}
 use Rattle.lists.specs.Walk.{cell, link_in}
-use Rattle.links.specs.declared.Search.{Search}
-use Rattle.links.specs.declared.Search.TheVariants.{At, Lost}
-use Rattle.links.specs.declared.Located.TheVariants as Located·
-use Rattle.links.specs.Links.{seek, searched, located}
+use Rattle.links.specs.Links.{Search, seek, searched, located}
 use Rattle.links.specs.Parts.{Place}
 use Rattle.links.proofs.Seeks.{seek_found, seek-on, seek-past}
 
@@ -27,22 +26,19 @@ pub record Hit (lk : Spot → ℕ) (n m e most : ℕ) (t : Spot) (r : ℕ) : Typ
   pub spot : Spot· n m t
   pub few : r ≤ most
 
-not_lost : (t : Spot) (r : ℕ) → Lost ≡ At t r → ⊥
-not_lost t r h = let z : ◌≡◌ {A = ℕ} 0 1 = cc in omega arith
-
-here : (lk : Spot → ℕ) (n m e most : ℕ) (s t : Spot) (rows r : ℕ) → Spot· n m s → lk s ≡ e → rows ≤ most → At s rows ≡ At t r → Hit lk n m e most t r
+here : (lk : Spot → ℕ) (n m e most : ℕ) (s t : Spot) (rows r : ℕ) → Spot· n m s → lk s ≡ e → rows ≤ most
+    → ◌≡◌ {A = Search} (Some (s, rows)) (Some (t, r)) → Hit lk n m e most t r
 here lk n m e most s t rows r v q l h =
-    let z : s ≡ t = cc in
-    let w : rows ≡ r = cc in
-    record { link = rw (← z) q; spot = rw (← z) v; few = rw (← w) l }
+    let p = some_pair_parts s t rows r h in
+    record { link = rw (← p.0) q; spot = rw (← p.0) v; few = rw (← p.1) l }
 
-pub seek_hit : (lk : Spot → ℕ) (n m e left : ℕ) (s : Spot) (rows : ℕ) → Spot· n m s → (t : Spot) (r : ℕ) → seek lk m e left s rows ≡ At t r
+pub seek_hit : (lk : Spot → ℕ) (n m e left : ℕ) (s : Spot) (rows : ℕ) → Spot· n m s → (t : Spot) (r : ℕ) → seek lk m e left s rows ≡ Some (t, r)
     → Hit lk n m e (rows + left) t r
 unfolding seek
 seek_hit lk n m e zero s rows v t r h =
     elim (ℕ_discrete (lk s) e) [
       | yes q ↦ here lk n m e (rows + 0) s t rows r v q (omega arith) (sym (seek_found lk m e s rows refl 0 q) ∙ h)
-      | no q ↦ absurd (not_lost t r (rw (ne_eqb (lk s) e q) at h))
+      | no q ↦ absurd (none-some (t, r) (rw (ne_eqb (lk s) e q) at h))
     ]
 seek_hit lk n m e (suc left) s rows v t r h =
     elim (ℕ_discrete (lk s) e) [
@@ -52,16 +48,16 @@ seek_hit lk n m e (suc left) s rows v t r h =
             | yes l ↦
                 (let i = seek_hit lk n m e left (After (lk s)) (rows + 1) l t r (sym (seek-on lk m e s rows refl left q l) ∙ h) in
                 record { link = i.link; spot = i.spot; few = omega arith })
-            | no l ↦ absurd (not_lost t r (sym (seek-past lk m e s rows refl (suc left) q (omega arith)) ∙ h))
+            | no l ↦ absurd (none-some (t, r) (sym (seek-past lk m e s rows refl (suc left) q (omega arith)) ∙ h))
           ]
     ]
 
-pub searched-hit : (lk : Spot → ℕ) (node : ℕ → ℕ) (n m e : ℕ) (s : Spot) (q : ℕ) → searched lk node n m e ≡ At s q → Hit lk n m e m s q
+pub searched-hit : (lk : Spot → ℕ) (node : ℕ → ℕ) (n m e : ℕ) (s : Spot) (q : ℕ) → searched lk node n m e ≡ Some (s, q) → Hit lk n m e m s q
 unfolding searched
 searched-hit lk node n m e s q h =
     elim (dec_lt (node e) n) [
       | yes l ↦ rw zero-add at (seek_hit lk n m e m (Head (node e)) 0 l s q (rw (lt-ltb (node e) n l) at h))
-      | no l ↦ absurd (not_lost s q (rw (le-ltb (node e) n (omega arith)) at h))
+      | no l ↦ absurd (none-some (s, q) (rw (le-ltb (node e) n (omega arith)) at h))
     ]
 
 -- the two searches of an edge
@@ -69,15 +65,16 @@ module _ (heads links ends : List ℕ) (n m e : ℕ) where
   abbrev pub found : ℕ → Search
   found k = searched (link_in heads links k) (cell ends k) n m e
 
-  pub located-at : (s t : Spot) (q r : ℕ) → found 0 ≡ At s q → found 1 ≡ At t r → located heads links ends n m e ≡ Located·.At s t (q + r)
+  pub located-at : (s t : Spot) (q r : ℕ) → found 0 ≡ Some (s, q) → found 1 ≡ Some (t, r)
+      → located heads links ends n m e ≡ Some (record { outgoing = s; incoming = t; rows = q + r })
   unfolding located
   located-at s t q r p w = rw (p, w)
 
-  pub located-lost : found 0 ≡ Lost → located heads links ends n m e ≡ Located·.Lost
+  pub located-lost : found 0 ≡ None → located heads links ends n m e ≡ None
   unfolding located
   located-lost p = rw p
 
-  pub located_lost_2 : (s : Spot) (q : ℕ) → found 0 ≡ At s q → found 1 ≡ Lost → located heads links ends n m e ≡ Located·.Lost
+  pub located_lost_2 : (s : Spot) (q : ℕ) → found 0 ≡ Some (s, q) → found 1 ≡ None → located heads links ends n m e ≡ None
   unfolding located
   located_lost_2 s q p w = rw (p, w)
 

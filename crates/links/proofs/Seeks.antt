@@ -1,26 +1,26 @@
 -- The clauses of `seek`, each under the facts that choose it; `link` is what stands at the spot s. Where a search starts: `seek_starts`, `seek-nowhere`.
 use Prim.Native.Nat.{ℕ, zero, suc, ◌+◌, ◌-◌, ◌≤◌, ◌<◌}
 use mathlib.Core.Path.{◌≡◌}
+use Rattle.std.specs.Prelude.{Some, None}
 use native.Mathlib.Omega.{arith}
 use borrow.Author.Tests.{lt-ltb, le-ltb, eq-eqb, ne_eqb}
 use Rattle.lists.specs.declared.Spot.{Spot}
 use Rattle.lists.specs.declared.Spot.TheVariants.{Head, After}
-use Rattle.links.specs.declared.Search.TheVariants.{At, Lost}
 use Rattle.links.specs.Links.{seek, searched}
 
 module _ (lk : Spot → ℕ) (m e : ℕ) (s : Spot) (rows : ℕ) {link : ℕ} (is : lk s ≡ link) where
-  pub seek_found : (left : ℕ) → link ≡ e → seek lk m e left s rows ≡ At s rows
+  pub seek_found : (left : ℕ) → link ≡ e → seek lk m e left s rows ≡ Some (s, rows)
   unfolding seek
   seek_found zero h = rw (is, eq-eqb link e h)
   seek_found (suc left) h = rw (is, eq-eqb link e h)
 
-  pub seek-spent : (link ≡ e → ⊥) → rows ≡ m → seek lk m e (m - rows) s rows ≡ Lost
+  pub seek-spent : (link ≡ e → ⊥) → rows ≡ m → seek lk m e (m - rows) s rows ≡ None
   unfolding seek
   seek-spent h q =
       let z : m - rows ≡ 0 = omega arith in
       rw (z, is, ne_eqb link e h)
 
-  pub seek-past : (left : ℕ) → (link ≡ e → ⊥) → m ≤ link → seek lk m e left s rows ≡ Lost
+  pub seek-past : (left : ℕ) → (link ≡ e → ⊥) → m ≤ link → seek lk m e left s rows ≡ None
   unfolding seek
   seek-past zero h p = rw (is, ne_eqb link e h)
   seek-past (suc left) h p = rw (is, ne_eqb link e h, le-ltb link m p)
@@ -41,6 +41,6 @@ module _ (lk : Spot → ℕ) (node : ℕ → ℕ) (n m e : ℕ) where
   unfolding searched
   seek_starts l = rw (lt-ltb (node e) n l)
 
-  pub seek-nowhere : n ≤ node e → searched lk node n m e ≡ Lost
+  pub seek-nowhere : n ≤ node e → searched lk node n m e ≡ None
   unfolding searched
   seek-nowhere l = rw (le-ltb (node e) n l)

@@ -1,34 +1,35 @@
 -- The search for an edge along the links of its lists, and links led elsewhere.
-use Rattle.std.specs.Prelude.{ℕ, zero, suc, ◌+◌, cond, List, eqb, ltb, set}
+use Rattle.std.specs.Prelude.{ℕ, zero, suc, ◌+◌, Option, Some, None, cond, List, eqb, ltb, set}
 use Rattle.tables.specs.Net.{Net, net, node_cell, edge_cell}
 use Rattle.lists.specs.declared.Spot.{Spot}
 use Rattle.lists.specs.declared.Spot.TheVariants.{Head, After}
 use Rattle.lists.specs.Walk.{cell, link_in}
-use Rattle.links.specs.declared.Search.{Search}
-use Rattle.links.specs.declared.Search.TheVariants as Search·
 use Rattle.links.specs.declared.Located.{Located}
-use Rattle.links.specs.declared.Located.TheVariants as Located·
+
+-- where a link leads to the edge that is sought, and the rows read before it; or it is in no list that can be followed to it
+abbrev pub Search : Type 0
+Search = Option (Spot × ℕ)
 
 -- e is sought from spot s on, with `rows` rows read before and at most `left` to read: a link equal to e is found, another leads on
 -- where it is below m, and all else is a failure
 unfoldable pub seek : (Spot → ℕ) → (m e left : ℕ) → Spot → (rows : ℕ) → Search
-seek lk m e zero s rows = cond (eqb (lk s) e) (Search·.At s rows) Search·.Lost
+seek lk m e zero s rows = cond (eqb (lk s) e) (Some (s, rows)) None
 seek lk m e (suc left) s rows =
-    cond (eqb (lk s) e) (Search·.At s rows)
-    (cond (ltb (lk s) m) (seek lk m e left (After (lk s)) (rows + 1)) Search·.Lost)
+    cond (eqb (lk s) e) (Some (s, rows))
+    (cond (ltb (lk s) m) (seek lk m e left (After (lk s)) (rows + 1)) None)
 
 -- e in its node's list of one direction: from the head on, m rows at the most; a failure if that node is not below n
 unfoldable pub searched : (Spot → ℕ) → (ℕ → ℕ) → (n m e : ℕ) → Search
-searched lk node n m e = cond (ltb (node e) n) (seek lk m e m (Head (node e)) 0) Search·.Lost
+searched lk node n m e = cond (ltb (node e) n) (seek lk m e m (Head (node e)) 0) None
 
 -- both searches succeed, and their rows add up; or the edge is lost
-abbrev pub join : Search → Search → Located
-join (Search·.At s q) (Search·.At t r) = Located·.At s t (q + r)
-join (Search·.At s q) Search·.Lost = Located·.Lost
-join Search·.Lost f = Located·.Lost
+abbrev pub join : Search → Search → Option Located
+join (Some (s, q)) (Some (t, r)) = Some (record { outgoing = s; incoming = t; rows = q + r })
+join (Some (s, q)) None = None
+join None f = None
 
 -- e in its source's outgoing and in its target's incoming list
-unfoldable pub located : (heads links ends : List ℕ) → (n m e : ℕ) → Located
+unfoldable pub located : (heads links ends : List ℕ) → (n m e : ℕ) → Option Located
 located heads links ends n m e =
     join (searched (link_in heads links 0) (cell ends 0) n m e) (searched (link_in heads links 1) (cell ends 1) n m e)
 

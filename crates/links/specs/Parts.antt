@@ -1,16 +1,13 @@
 -- What the parts ask of their callers, and what they leave.
-use Rattle.std.specs.Prelude.{ℕ, ◌*◌, ◌≤◌, ◌<◌, ◌≡◌, List, [], length, get_or, set}
+use Rattle.std.specs.Prelude.{ℕ, Option, Some, None, ◌*◌, ◌≤◌, ◌<◌, ◌≡◌, List, [], length, get_or, set}
 use Rattle.tables.specs.Net.{Lent, net, node_cells, edge_cells, edge_rows, node_cell, edge_cell}
 use Rattle.tables.specs.Parts.{EdgeRow}
 use Rattle.tables.specs.Rows.{edge_row, vacant_edge, links_with, ends_with}
 use Rattle.lists.specs.declared.Spot.{Spot}
 use Rattle.lists.specs.declared.Spot.TheVariants.{Head, After}
 use Rattle.lists.specs.Walk.{link_in}
-use Rattle.links.specs.declared.Search.{Search}
-use Rattle.links.specs.declared.Search.TheVariants as Search·
 use Rattle.links.specs.declared.Located.{Located}
-use Rattle.links.specs.declared.Located.TheVariants as Located·
-use Rattle.links.specs.Links.{seek, located, heads_at, links_at}
+use Rattle.links.specs.Links.{Search, seek, located, heads_at, links_at}
 
 -- the columns hold n nodes and m edges, of which e is one
 pub record Within (heads links ends n m e : ℕ) : Type 0 where
@@ -29,12 +26,12 @@ pub record Start (heads : List ℕ) (links m k a first : ℕ) : Type 0 where
 
 -- a column of heads, or of links, after a search in direction k: the link at the spot found leads to v; where e is lost it is as it was
 abbrev pub heads_found : ℕ → Search → ℕ → List ℕ → List ℕ
-heads_found k (Search·.At s rows) v heads = heads_at k s v heads
-heads_found k Search·.Lost v heads = heads
+heads_found k (Some (s, rows)) v heads = heads_at k s v heads
+heads_found k None v heads = heads
 
 abbrev pub links_found : ℕ → Search → ℕ → List ℕ → List ℕ
-links_found k (Search·.At s rows) v links = links_at k s v links
-links_found k Search·.Lost v links = links
+links_found k (Some (s, rows)) v links = links_at k s v links
+links_found k None v links = links
 
 -- e is sought in a's list of direction k, and the link to it leads to v
 pub record ChangesLink (heads links : Lent ℕ) (m k a e v : ℕ) (r : Search) : Type 0 where
@@ -43,16 +40,16 @@ pub record ChangesLink (heads links : Lent ℕ) (m k a e v : ℕ) (r : Search) :
   pub links_are : links.new ≡ links_found k r v links.old
 
 -- a column of heads, or of links, after the searches in both lists of an edge: its outgoing link leads to v, its incoming one to w
-abbrev pub heads_located : Located → (v w : ℕ) → List ℕ → List ℕ
-heads_located (Located·.At s t rows) v w heads = heads_at 1 t w (heads_at 0 s v heads)
-heads_located Located·.Lost v w heads = heads
+abbrev pub heads_located : Option Located → (v w : ℕ) → List ℕ → List ℕ
+heads_located (Some x) v w heads = heads_at 1 x.incoming w (heads_at 0 x.outgoing v heads)
+heads_located None v w heads = heads
 
-abbrev pub links_located : Located → (v w : ℕ) → List ℕ → List ℕ
-links_located (Located·.At s t rows) v w links = links_at 1 t w (links_at 0 s v links)
-links_located Located·.Lost v w links = links
+abbrev pub links_located : Option Located → (v w : ℕ) → List ℕ → List ℕ
+links_located (Some x) v w links = links_at 1 x.incoming w (links_at 0 x.outgoing v links)
+links_located None v w links = links
 
 -- e is sought in both its lists, and the links to it lead to v and to w
-pub record ChangesLinks (heads links : Lent ℕ) (ends : List ℕ) (n m e v w : ℕ) (r : Located) : Type 0 where
+pub record ChangesLinks (heads links : Lent ℕ) (ends : List ℕ) (n m e v w : ℕ) (r : Option Located) : Type 0 where
   pub answer_is : r ≡ located heads.old links.old ends n m e
   pub heads_are : heads.new ≡ heads_located r v w heads.old
   pub links_are : links.new ≡ links_located r v w links.old

@@ -5,16 +5,10 @@ use lists::Spot;
 
 pub mod parts;
 
-// Where a link leads to the edge that is sought, and the rows read before it; or it is in no list that can be followed to it.
+// Where the links that lead to an edge stand, in its outgoing and in its incoming list, and the rows read of both.
 #[derive(Clone, Copy)]
-pub enum Search {
-    At(Spot, u32),
-    Lost,
-}
-
-// The same of both lists of an edge: outgoing, incoming, and the rows of both.
-#[derive(Clone, Copy)]
-pub enum Located {
-    At(Spot, Spot, u32),
-    Lost,
+pub struct Located {
+    pub outgoing: Spot,
+    pub incoming: Spot,
+    pub rows: u32,
 }

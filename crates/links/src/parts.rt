@@ -4,14 +4,15 @@ ghost use Rattle.tables.specs.Net.{loan};
 ghost use Rattle.links.specs.Links.{heads_at, links_at};
 ghost use Rattle.links.specs.Parts.{Start, Within, ChangesLink, ChangesLinks, Place, Places, Leads, Rows, MovesLast};
 
-use crate::{Located, Search};
+use crate::Located;
 use index::{EdgeIndex, NodeIndex};
 use lists::Spot;
 use tables::Edge;
 use tables::parts::{EDGE_CELLS, INCOMING, NODE_CELLS, OUTGOING, SOURCE, TARGET, write_edge};
 
-// The link to e in a's list of direction k leads to v instead; where e is not met within m rows nothing changes.
-// `first` is the head of that list: the caller reads the heads of both lists before it walks along one, so that neither waits for the other.
+// The link to e in a's list of direction k leads to v instead: where it stands, and the rows read before it. Where e is not met
+// within m rows nothing changes. `first` is the head of that list: the caller reads the heads of both lists before it walks along
+// one, so that neither waits for the other.
 pub fn change_link(
     heads: &mut [u32],
     links: &mut [u32],
@@ -21,32 +22,28 @@ pub fn change_link(
     first: u32,
     e: EdgeIndex,
     v: u32,
-) -> Search
+) -> Option<(Spot, u32)>
     requires { Start heads.old (length links.old) m k a.0 first }
     ensures { ChangesLink (loan heads.old heads.new) (loan links.old links.new) m k a.0 e.0 v result }
 {
     if first == e.0 {
         heads[NODE_CELLS * a.index() + k] = v;
-        return Search::At(Spot::Head(a.0), 0);
+        return Some((Spot::Head(a.0), 0));
     }
     let mut link = first;
-    let mut rows = 0;
-    loop {
-        if rows == m {
-            break Search::Lost;
-        }
+    for rows in 0..m {
         if m <= link {
-            break Search::Lost;
+            return None;
         }
         let cell = EDGE_CELLS * EdgeIndex(link).index() + k;
         let next = links[cell];
-        rows += 1;
         if next == e.0 {
             links[cell] = v;
-            break Search::At(Spot::After(link), rows);
+            return Some((Spot::After(link), rows + 1));
         }
         link = next;
     }
+    None
 }
 
 // The links to e in its source's outgoing and in its target's incoming list lead to v and to w instead; where e is not met in both, all is as it was.
@@ -59,7 +56,7 @@ pub fn change_edge_links(
     e: EdgeIndex,
     v: u32,
     w: u32,
-) -> Located
+) -> Option<Located>
     requires { Within (length heads.old) (length links.old) (length ends.now) n m e.0 }
     ensures { ChangesLinks (loan heads.old heads.new) (loan links.old links.new) ends.now n m e.0 v w result }
 {
@@ -67,26 +64,27 @@ pub fn change_edge_links(
     let a = NodeIndex(ends[cell + SOURCE]);
     let b = NodeIndex(ends[cell + TARGET]);
     if n <= a.0 {
-        return Located::Lost;
+        return None;
     }
     if n <= b.0 {
-        return Located::Lost;
+        return None;
     }
     let first = heads[NODE_CELLS * a.index() + OUTGOING];
     let second = heads[NODE_CELLS * b.index() + INCOMING];
-    match change_link(heads, links, m, OUTGOING, a, first, e, v) {
-        Search::Lost => Located::Lost,
-        Search::At(s, q) => match change_link(heads, links, m, INCOMING, b, second, e, w) {
-            Search::Lost => {
-                relink(heads, links, OUTGOING, s, e.0);
-                Located::Lost
-            }
-            Search::At(t, r) => Located::At(s, t, q + r),
-        },
-    }
+    let (outgoing, read) = change_link(heads, links, m, OUTGOING, a, first, e, v)?;
+    let Some((incoming, more)) = change_link(heads, links, m, INCOMING, b, second, e, w) else {
+        relink(heads, links, OUTGOING, outgoing, e.0);
+        return None;
+    };
+    Some(Located {
+        outgoing,
+        incoming,
+        rows: read + more,
+    })
 }
 
 // The link at a spot of direction k leads to v.
+#[tactic(auto, unfolding(crate::specs::Links::heads_at, crate::specs::Links::links_at, crate::specs::Parts::Place))]
 pub fn relink(heads: &mut [u32], links: &mut [u32], k: usize, spot: Spot, v: u32)
     requires { Place (length heads.old) (length links.old) k spot }
     ensures { (heads.new ≡ heads_at k spot v heads.old) × (links.new ≡ links_at k spot v links.old) }

@@ -11,11 +11,11 @@ returns-then-n-a c = record { answer_is = no_source _ _ _ _ _ _ _ c.index-cell.e
 pub returns-then-n-b : goal.returns-then-n-b
 returns-then-n-b c = record { answer_is = no_target _ _ _ _ _ _ _ c.index-cell.ensures c.if-n-b.true; heads_are = refl; links_are = refl }
 
-pub change_link-requires-in-At : goal.change_link-requires-in-At
-change_link-requires-in-At c =
+pub change_link-requires-2 : goal.change_link-requires-2
+change_link-requires-2 c =
     let f = c.change_link.ensures in
     let s = c.requires in
-    let same = as_before _ _ c.args.ends.now _ _ _ _ c.index-cell.ensures _ c.if-n-a.false _ _ _ f.answer_is f.heads_are f.links_are _ _ c.in-At.is in
+    let same = as_before _ _ c.args.ends.now _ _ _ _ c.index-cell.ensures _ c.if-n-a.false _ _ _ f.answer_is f.heads_are f.links_are _ _ c.in_ok-outgoing.was in
     record {
       direction = omega arith;
       head = omega (arith, c.change_link.auto.heads, c.if-n-b.false, s.heads_hold);
@@ -27,9 +27,9 @@ pub relink-requires : goal.relink-requires
 relink-requires c =
     let f = c.change_link.ensures in
     let k = c.change_link.auto in
-    let l = c.change_link-in-At.auto in
+    let l = c.change_link-2.auto in
     let s = c.requires in
-    let h = outgoing_hit _ _ c.args.ends.now _ _ _ _ c.index-cell.ensures _ c.if-n-a.false _ _ _ f.answer_is f.heads_are f.links_are _ _ c.in-At.is in
+    let h = outgoing_hit _ _ c.args.ends.now _ _ _ _ c.index-cell.ensures _ c.if-n-a.false _ _ _ f.answer_is f.heads_are f.links_are _ _ c.in_ok-outgoing.was in
     place_kept 0 _ (l.heads ∙ k.heads) (l.links ∙ k.links) (place_of _ _ _ _ 0 (omega arith) s.heads_hold s.links_hold _ h.spot)
 
 pub overflow_add-result : goal.overflow_add-result
@@ -37,35 +37,35 @@ overflow_add-result c =
     let E = c.args.ends.now in
     let x = c.index-cell.ensures in
     let f = c.change_link.ensures in
-    let g = c.change_link-in-At.ensures in
-    let z = c.in-At.is in
+    let g = c.change_link-2.ensures in
+    let z = c.in_ok-outgoing.was in
     let h = outgoing_hit _ _ E _ _ _ _ x _ c.if-n-a.false _ _ _ f.answer_is f.heads_are f.links_are _ _ z in
     let i =
     incoming_hit _ _ E _ _ _ _ x _ c.if-n-a.false _ _ _ f.answer_is f.heads_are f.links_are _ _ z _ c.if-n-b.false _ _ _
-    g.answer_is g.heads_are g.links_are _ _ c.in-At-change_link.is in
+    g.answer_is g.heads_are g.links_are _ _ c.in-Some.is in
     record { fits = omega (arith, h.few, i.few, c.requires.edges_most) }
 
-pub returns-in-Lost : goal.returns-in-Lost
-returns-in-Lost c =
+pub returns-in_err-outgoing : goal.returns-in_err-outgoing
+returns-in_err-outgoing c =
     let f = c.change_link.ensures in
-    let t = not_met _ _ c.args.ends.now _ _ _ _ c.index-cell.ensures _ c.if-n-a.false _ _ _ f.answer_is f.heads_are f.links_are c.in-Lost.is in
-    record { answer_is = t.0; heads_are = t.1; links_are = t.2 }
+    let t = not_met _ _ c.args.ends.now _ _ _ _ c.index-cell.ensures _ c.if-n-a.false _ _ _ f.answer_is f.heads_are f.links_are c.in_err-outgoing.was in
+    rw c.from_residual.ensures (record { answer_is = t.0; heads_are = t.1; links_are = t.2 })
 
-pub returns-in-Lost-change_link : goal.returns-in-Lost-change_link
-returns-in-Lost-change_link c =
+pub returns-in_default : goal.returns-in_default
+returns-in_default c =
     let f = c.change_link.ensures in
-    let g = c.change_link-in-At.ensures in
+    let g = c.change_link-2.ensures in
     let h = c.relink.ensures in
     let t =
     second_not_met _ _ c.args.ends.now _ _ _ _ c.index-cell.ensures _ c.if-n-a.false _ _ _ f.answer_is f.heads_are f.links_are _ _
-    c.in-At.is _ c.if-n-b.false _ _ _ g.answer_is g.heads_are g.links_are _ _ c.in-Lost-change_link.is h.0 h.1 in
+    c.in_ok-outgoing.was _ c.if-n-b.false _ _ _ g.answer_is g.heads_are g.links_are _ _ c.in_default.is h.0 h.1 in
     record { answer_is = t.0; heads_are = t.1; links_are = t.2 }
 
-pub returns-in-At-change_link : goal.returns-in-At-change_link
-returns-in-At-change_link c =
+pub returns : goal.returns
+returns c =
     let f = c.change_link.ensures in
-    let g = c.change_link-in-At.ensures in
+    let g = c.change_link-2.ensures in
     let t =
     both-met _ _ c.args.ends.now _ _ _ _ c.index-cell.ensures _ c.if-n-a.false _ _ _ f.answer_is f.heads_are f.links_are _ _
-    c.in-At.is _ c.if-n-b.false _ _ _ g.answer_is g.heads_are g.links_are _ _ c.in-At-change_link.is in
+    c.in_ok-outgoing.was _ c.if-n-b.false _ _ _ g.answer_is g.heads_are g.links_are _ _ c.in-Some.is in
     record { answer_is = t.0; heads_are = t.1; links_are = t.2 }

@@ -34,12 +34,6 @@ loop-rows-preserved c =
       l,
     )
 
-pub returns-then-rows-m : goal.returns-then-rows-m
-returns-then-rows-m c =
-    let i = c.loop-rows.invariant.0 in
-    let w = i.so_far _ c.requires.first_is in
-    record { answer_is = sym (seek-spent _ _ _ _ _ w.1 i.other c.if-rows-m.true) ∙ w.2; heads_are = refl; links_are = c.loop-rows.invariant.1 }
-
 pub returns-then-m-link : goal.returns-then-m-link
 returns-then-m-link c =
     let i = c.loop-rows.invariant.0 in
@@ -59,3 +53,9 @@ returns-then-next-e c =
       heads_are = refl;
       links_are = rw (q, l);
     }
+
+pub returns : goal.returns
+returns c =
+    let i = c.loop-rows.invariant.0 in
+    let w = i.so_far _ c.requires.first_is in
+    record { answer_is = sym (seek-spent _ _ _ _ _ w.1 i.other (omega arith)) ∙ w.2; heads_are = refl; links_are = c.loop-rows.invariant.1 }

@@ -16,6 +16,3 @@ pub record Going (heads links : List ℕ) (m k first e link rows : ℕ) : Type 0
 
 abbrev pub invariant-loop-rows : goal.invariant-loop-rows
 invariant-loop-rows l = Going l.heads l.fn.links l.m l.k l.first l.e.0 l.link l.rows × (l.links ≡ l.fn.links)
-
-abbrev pub decreases-loop-rows : goal.decreases-loop-rows
-decreases-loop-rows l = l.m - l.rows
