@@ -1,6 +1,8 @@
 -- What a loop that counts has counted when it ends.
+use Rattle.std.specs.Prelude.{Option, Some, None}
+use Rattle.std.proofs.lemmas.Option.{none-some, cond_some}
 use Prim.Native.Nat.{ℕ, suc, ◌+◌, ◌≤◌, ◌<◌}
-use mathlib.Core.Path.{◌≡◌, refl, ap, ◌∙◌}
+use mathlib.Core.Path.{◌≡◌, refl, sym, ap, ◌∙◌}
 use mathlib.Core.Bool.{Bool, true, false, cond, not, ◌&&◌}
 use mathlib.Core.List.{List, [], ◌∷◌, ◌++◌}
 use borrow.Author.Tests.{lt-ltb, le-ltb}
@@ -9,7 +11,6 @@ use lib.Dec.{ltb}
 use lib.ListN.{length, length-append}
 use Rattle.lists.specs.Walk.{walk, stop, filter}
 use Rattle.lists.specs.Parts.{extents_of}
-use Rattle.lists.specs.declared.Extents.TheVariants as Extents·
 use Rattle.lists.proofs.Walks.{Along, all_met, stops_here, stops_short, filter_takes, filter_leaves}
 
 pub filter-length : (p : ℕ → Bool) (xs : List ℕ) → length (filter p xs) ≤ length xs
@@ -29,33 +30,29 @@ count_leaves p xs e n h = ap length (filter_leaves p xs e h) ∙ n
 
 -- the extents of two lists
 module _ {next : ℕ → ℕ} {m first : ℕ} {met : List ℕ} {e rows : ℕ} (a : Along next m first met e rows) where
-  pub first_endless : (others : List ℕ) (t : ℕ) → e < m → rows ≡ m → Extents·.Broken ≡ extents_of (walk next m m first) (stop next m m first) others t m
+  pub first_endless : (others : List ℕ) (t : ℕ) → e < m → rows ≡ m → None ≡ extents_of (walk next m m first) (stop next m m first) others t m
   unfolding extents_of
   first_endless others t h n = rw (stops_short a n, lt-ltb e m h)
 
   module _ {next' : ℕ → ℕ} {first' : ℕ} {met' : List ℕ} {f others : ℕ} (b : Along next' m first' met' f others) (h : m ≤ e) where
-    pub second_endless : f < m → others ≡ m → Extents·.Broken ≡ extents_of (walk next m m first) (stop next m m first) (walk next' m m first') (stop next' m m first') m
+    pub second_endless : f < m → others ≡ m → None ≡ extents_of (walk next m m first) (stop next m m first) (walk next' m m first') (stop next' m m first') m
     unfolding extents_of
     second_endless g n = rw (stops_here a h, le-ltb e m h, stops_short b n, lt-ltb f m g)
 
-    pub both-ended : m ≤ f → Extents·.Rows rows others ≡ extents_of (walk next m m first) (stop next m m first) (walk next' m m first') (stop next' m m first') m
+    pub both-ended : m ≤ f → Some (rows, others) ≡ extents_of (walk next m m first) (stop next m m first) (walk next' m m first') (stop next' m m first') m
     unfolding extents_of
     both-ended g = rw (all_met a h, stops_here a h, le-ltb e m h, a.many, all_met b g, stops_here b g, le-ltb f m g, b.many)
 
 -- and what they say of them
-pub extents_broken : (rows : List ℕ) (s : ℕ) (others : List ℕ) (t m : ℕ) → extents_of rows s others t m ≡ Extents·.Broken → (not (ltb s m) && not (ltb t m)) ≡ false
+pub extents_broken : (rows : List ℕ) (s : ℕ) (others : List ℕ) (t m : ℕ) → extents_of rows s others t m ≡ None → (not (ltb s m) && not (ltb t m)) ≡ false
 unfolding extents_of
 extents_broken rows s others t m = go (not (ltb s m) && not (ltb t m))
   where
-    go : (b : Bool) → cond b (Extents·.Rows (length rows) (length others)) Extents·.Broken ≡ Extents·.Broken → b ≡ false
-    go true h = absurd (let z : ◌≡◌ {A = ℕ} 0 1 = cc in omega arith)
+    go : (b : Bool) → cond {A = Option (ℕ × ℕ)} b (Some (length rows, length others)) None ≡ None → b ≡ false
+    go true h = absurd (none-some _ (sym h))
     go false h = refl
 
-pub extents_rows : (rows : List ℕ) (s : ℕ) (others : List ℕ) (t m : ℕ) {r o : ℕ} → extents_of rows s others t m ≡ Extents·.Rows r o
+pub extents_rows : (rows : List ℕ) (s : ℕ) (others : List ℕ) (t m : ℕ) {r o : ℕ} → extents_of rows s others t m ≡ Some (r, o)
     → ((not (ltb s m) && not (ltb t m)) ≡ true) × (length rows ≡ r) × (length others ≡ o)
 unfolding extents_of
-extents_rows rows s others t m {r} {o} = go (not (ltb s m) && not (ltb t m))
-  where
-    go : (b : Bool) → cond b (Extents·.Rows (length rows) (length others)) Extents·.Broken ≡ Extents·.Rows r o → (b ≡ true) × (length rows ≡ r) × (length others ≡ o)
-    go true h = (refl, cc, cc)
-    go false h = absurd (let z : ◌≡◌ {A = ℕ} 0 1 = cc in omega arith)
+extents_rows rows s others t m h = let p = cond_some _ _ _ h in (p.0, ap (λ x. x.0) p.1, ap (λ x. x.1) p.1)

@@ -1,12 +1,10 @@
 -- What the parts answer, and what they ask of their callers.
-use Rattle.std.specs.Prelude.{ℕ, ◌*◌, ◌<◌, ◌≤◌, ◌≡◌, cond, not, ◌&&◌, List, [], ◌∷◌, ltb, length}
+use Rattle.std.specs.Prelude.{ℕ, ◌*◌, ◌<◌, ◌≤◌, ◌≡◌, cond, not, ◌&&◌, List, [], ◌∷◌, ltb, length, Option, Some, None}
 use Rattle.tables.specs.Net.{edge_cells, edge_cell}
 use Rattle.tables.specs.Answers.{Out, out, done, onto}
 use Rattle.lists.specs.declared.Pick.{Pick}
 use Rattle.lists.specs.declared.Found.{Found}
 use Rattle.lists.specs.declared.Found.TheVariants as Found·
-use Rattle.lists.specs.declared.Extents.{Extents}
-use Rattle.lists.specs.declared.Extents.TheVariants as Extents·
 use Rattle.lists.specs.Walk.{rows_from, taken_from}
 
 -- the first row that a walk takes; else where the list ends, unless it is broken
@@ -15,8 +13,8 @@ first_of (e ∷ es) m s = Found·.At (record { 0 = e })
 first_of [] m s = cond (ltb s m) Found·.Broken (Found·.End (record { 0 = s }))
 
 -- how many rows each of two lists has, unless one is broken
-unfoldable pub extents_of : List ℕ → (s : ℕ) → List ℕ → (t m : ℕ) → Extents
-extents_of rows s others t m = cond (not (ltb s m) && not (ltb t m)) (Extents·.Rows (length rows) (length others)) Extents·.Broken
+unfoldable pub extents_of : List ℕ → (s : ℕ) → List ℕ → (t m : ℕ) → Option (ℕ × ℕ)
+extents_of rows s others t m = cond (not (ltb s m) && not (ltb t m)) (Some (length rows, length others)) None
 
 -- items at the front of a table that has room for them, and their number
 unfoldable pub written : List ℕ → List ℕ → Out ℕ (List ℕ)

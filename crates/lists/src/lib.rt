@@ -38,10 +38,3 @@ pub enum Found {
     End(EdgeIndex),
     Broken,
 }
-
-// How many rows each of two lists has, where both end within m of them.
-#[derive(Clone, Copy)]
-pub enum Extents {
-    Rows(u32, u32),
-    Broken,
-}

@@ -4,7 +4,7 @@ ghost use Rattle.lists.specs.Walk.{picked, rows_from, taken_from, stop_from, ite
 ghost use Rattle.tables.specs.Answers.{out, done};
 ghost use Rattle.lists.specs.Parts.{first_of, extents_of, written, Links, Edges, Known, Gives, HasRow};
 
-use crate::{Extents, Found, Item, Pick};
+use crate::{Found, Item, Pick};
 use index::{EdgeIndex, NodeIndex};
 use tables::parts::EDGE_CELLS;
 
@@ -49,9 +49,9 @@ pub fn first(links: &[u32], ends: &[u32], m: u32, k: usize, pick: Pick, link: u3
     }
 }
 
-// How many rows there are from `link` on in direction k, and how many from `other` on in direction j.
+// How many rows there are from `link` on in direction k, and how many from `other` on in direction j; none where a list does not end within m rows.
 // The second list is gone along beside the first, so that neither waits for the other's links.
-pub fn count_both(links: &[u32], m: u32, k: usize, link: u32, j: usize, other: u32) -> Extents
+pub fn count_both(links: &[u32], m: u32, k: usize, link: u32, j: usize, other: u32) -> Option<(u32, u32)>
     requires { Links (length links.now) m k × Links (length links.now) m j }
     ensures { result ≡ extents_of (rows_from links.now m k link) (stop_from links.now m k link)
         (rows_from links.now m j other) (stop_from links.now m j other) m }
@@ -62,7 +62,7 @@ pub fn count_both(links: &[u32], m: u32, k: usize, link: u32, j: usize, other: u
     let mut others = 0;
     while e < m {
         if rows == m {
-            return Extents::Broken;
+            return None;
         }
         e = links[EDGE_CELLS * EdgeIndex(e).index() + k];
         rows += 1;
@@ -73,12 +73,12 @@ pub fn count_both(links: &[u32], m: u32, k: usize, link: u32, j: usize, other: u
     }
     while f < m {
         if others == m {
-            return Extents::Broken;
+            return None;
         }
         f = links[EDGE_CELLS * EdgeIndex(f).index() + j];
         others += 1;
     }
-    Extents::Rows(rows, others)
+    Some((rows, others))
 }
 
 // How many of the `rows` rows from `link` on the walk takes.
@@ -97,14 +97,12 @@ pub fn count_taken(
     let far = 1 - k;
     let mut e = link;
     let mut taken = 0;
-    let mut met = 0;
-    while met < rows {
+    for _ in 0..rows {
         let row = EDGE_CELLS * EdgeIndex(e).index();
         if picks(pick, NodeIndex(ends[row + far])) {
             taken += 1;
         }
         e = links[row + k];
-        met += 1;
     }
     taken
 }
@@ -143,15 +141,13 @@ pub fn give(
     let far = 1 - k;
     let mut e = link;
     let mut at = 0;
-    let mut met = 0;
-    while met < rows {
+    for _ in 0..rows {
         let row = EDGE_CELLS * EdgeIndex(e).index();
         if picks(pick, NodeIndex(ends[row + far])) {
             items[at] = value(registers, ends, k, item, EdgeIndex(e));
             at += 1;
         }
         e = links[row + k];
-        met += 1;
     }
     at
 }
