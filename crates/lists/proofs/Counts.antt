@@ -1,7 +1,7 @@
 -- What a loop that counts has counted when it ends.
 use Rattle.std.specs.Prelude.{Option, Some, None}
 use Rattle.std.proofs.lemmas.Option.{none-some, cond_some}
-use Prim.Native.Nat.{ℕ, suc, ◌+◌, ◌≤◌, ◌<◌}
+use Prim.Native.Nat.{ℕ, ◌+◌, ◌≤◌, ◌<◌}
 use mathlib.Core.Path.{◌≡◌, refl, sym, ap, ◌∙◌}
 use mathlib.Core.Bool.{Bool, true, false, cond, not, ◌&&◌}
 use mathlib.Core.List.{List, [], ◌∷◌, ◌++◌}
@@ -9,17 +9,13 @@ use borrow.Author.Tests.{lt-ltb, le-ltb}
 use native.Mathlib.Omega.{arith}
 use lib.Dec.{ltb}
 use lib.ListN.{length, length-append}
+use Rattle.std.proofs.lemmas.List.Sums.{length-filter, count_by-le-length}
 use Rattle.lists.specs.Walk.{walk, stop, filter}
 use Rattle.lists.specs.Parts.{extents_of}
 use Rattle.lists.proofs.Walks.{Along, all_met, stops_here, stops_short, filter_takes, filter_leaves}
 
 pub filter-length : (p : ℕ → Bool) (xs : List ℕ) → length (filter p xs) ≤ length xs
-filter-length p [] = omega arith
-filter-length p (x ∷ xs) = go (p x) (filter-length p xs)
-  where
-    go : (b : Bool) → length (filter p xs) ≤ length xs → length (cond b (x ∷ filter p xs) (filter p xs)) ≤ suc (length xs)
-    go true h = omega (arith, h)
-    go false h = omega (arith, h)
+filter-length p xs = omega (arith, length-filter p xs, count_by-le-length p xs)
 
 -- one row more, taken or left
 pub count_takes : (p : ℕ → Bool) (xs : List ℕ) (e : ℕ) {taken : ℕ} → length (filter p xs) ≡ taken → p e ≡ true → length (filter p (xs ++ (e ∷ []))) ≡ taken + 1

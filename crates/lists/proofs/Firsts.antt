@@ -6,9 +6,10 @@ use mathlib.Core.List.{List, [], ◌∷◌, ◌++◌}
 use borrow.Author.Tests.{lt-ltb, le-ltb}
 use native.Mathlib.Omega.{arith}
 use Rattle.lists.specs.Walk.{walk, stop, filter}
+use Rattle.std.proofs.lemmas.List.Elements.{filter-append}
 use Rattle.lists.specs.Parts.{first_of}
 use Rattle.lists.specs.declared.Found.TheVariants.{At, End, Broken}
-use Rattle.lists.proofs.Walks.{Along, walk-out, rest, all_met, stops_here, stops_short, filter-append}
+use Rattle.lists.proofs.Walks.{Along, walk-out, rest, all_met, stops_here, stops_short}
 
 module _ {next : ℕ → ℕ} {m first : ℕ} {met : List ℕ} {e rows : ℕ} (p : ℕ → Bool) (a : Along next m first met e rows) (none : filter p met ≡ []) where
   first_rest : (xs : List ℕ) → walk next m m first ≡ met ++ xs → filter p (walk next m m first) ≡ filter p xs

@@ -9,10 +9,11 @@ use lib.Dec.{ltb}
 use lib.ListN.{length, get_or, set, length-append, length-map, length-set}
 use lib.Seq.{get_or_at, take_all}
 use Rattle.tables.specs.Answers.{out, done}
+use Rattle.std.proofs.lemmas.List.Elements.{filter-append}
 use Rattle.tables.proofs.Front.{front, front_more}
 use Rattle.lists.specs.Walk.{walk, filter}
 use Rattle.lists.specs.Parts.{written}
-use Rattle.lists.proofs.Walks.{Along, rest, all_met, filter-append}
+use Rattle.lists.proofs.Walks.{Along, rest, all_met}
 use Rattle.lists.proofs.Counts.{count_takes, count_leaves}
 
 pub walk-length : (next : ℕ → ℕ) (m left e : ℕ) → length (walk next m left e) ≤ left

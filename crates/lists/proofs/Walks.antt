@@ -10,6 +10,7 @@ use native.Mathlib.Nat.{sub-zero}
 use native.Mathlib.Omega.{arith}
 use native.Mathlib.Numerals.{add-one}
 use Rattle.lists.specs.Walk.{walk, stop, filter}
+use Rattle.std.proofs.lemmas.List.Elements.{filter-append}
 
 module _ (next : ℕ → ℕ) (m : ℕ) where
   pub walk_step : (l e : ℕ) {left : ℕ} → left ≡ l + 1 → e < m → walk next m left e ≡ e ∷ walk next m l (next e)
@@ -85,15 +86,6 @@ module _ {next : ℕ → ℕ} {m first : ℕ} {met : List ℕ} {e rows : ℕ} (a
   stops_short h = a.stops ∙ stop-out next m (m - rows) e (omega (arith, h))
 
 -- the items that a test takes of a list that has grown
-pub filter-append : (p : ℕ → Bool) (xs ys : List ℕ) → filter p (xs ++ ys) ≡ filter p xs ++ filter p ys
-filter-append p [] ys = refl
-filter-append p (x ∷ xs) ys = go (p x) (filter-append p xs ys)
-  where
-    go : (b : Bool) → filter p (xs ++ ys) ≡ filter p xs ++ filter p ys
-        → cond b (x ∷ filter p (xs ++ ys)) (filter p (xs ++ ys)) ≡ cond b (x ∷ filter p xs) (filter p xs) ++ filter p ys
-    go true h = ap (λ l. x ∷ l) h
-    go false h = h
-
 pub filter_takes : (p : ℕ → Bool) (xs : List ℕ) (e : ℕ) → p e ≡ true → filter p (xs ++ (e ∷ [])) ≡ filter p xs ++ (e ∷ [])
 filter_takes p xs e h = filter-append p xs (e ∷ []) ∙ ap (λ b. filter p xs ++ cond b (e ∷ []) []) h
 

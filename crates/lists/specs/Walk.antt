@@ -1,5 +1,6 @@
 -- The lists of a network: where a link stands, and the rows that are met from a link on.
 use Rattle.std.specs.Prelude.{ℕ, zero, suc, ◌-◌, Bool, true, cond, not, ◌&&◌, List, [], ◌∷◌, ◌++◌, map, ltb, eqb, get_or}
+pub use Rattle.std.specs.Prelude.{filter}
 use Rattle.tables.specs.Net.{Net, node_cell, edge_cell}
 use Rattle.lists.specs.declared.Spot.{Spot}
 use Rattle.lists.specs.declared.Spot.TheVariants.{Head, After}
@@ -29,11 +30,6 @@ walk next m (suc left) e = cond (ltb e m) (e ∷ walk next m left (next e)) []
 unfoldable pub stop : (ℕ → ℕ) → (m left e : ℕ) → ℕ
 stop next m zero e = e
 stop next m (suc left) e = cond (ltb e m) (stop next m left (next e)) e
-
--- the items of a list that satisfy a test, in order
-abbrev pub filter : (ℕ → Bool) → List ℕ → List ℕ
-filter p [] = []
-filter p (x ∷ xs) = cond (p x) (x ∷ filter p xs) (filter p xs)
 
 -- whether a walk takes a row, by its far end
 abbrev pub picked : Pick → ℕ → Bool

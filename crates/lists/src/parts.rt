@@ -14,14 +14,9 @@ pub fn picks(pick: Pick, far: NodeIndex) -> bool
 {
     match pick {
         Pick::Every => true,
-        Pick::To(b) => far.0 == b.0,
-        Pick::NotTo(a) => far.0 != a.0,
-        Pick::ToNot(b, a) => {
-            if far.0 == a.0 {
-                return false;
-            }
-            far.0 == b.0
-        }
+        Pick::To(b) => far == b,
+        Pick::NotTo(a) => far != a,
+        Pick::ToNot(b, a) => far != a && far == b,
     }
 }
 
@@ -49,9 +44,16 @@ pub fn first(links: &[u32], ends: &[u32], m: u32, k: usize, pick: Pick, link: u3
     }
 }
 
-// How many rows there are from `link` on in direction k, and how many from `other` on in direction j; none where a list does not end within m rows.
+// How many rows there are from `link` on in direction k, and how many from `other` on in direction j, where both lists end within m rows.
 // The second list is gone along beside the first, so that neither waits for the other's links.
-pub fn count_both(links: &[u32], m: u32, k: usize, link: u32, j: usize, other: u32) -> Option<(u32, u32)>
+pub fn count_both(
+    links: &[u32],
+    m: u32,
+    k: usize,
+    link: u32,
+    j: usize,
+    other: u32,
+) -> Option<(u32, u32)>
     requires { Links (length links.now) m k × Links (length links.now) m j }
     ensures { result ≡ extents_of (rows_from links.now m k link) (stop_from links.now m k link)
         (rows_from links.now m j other) (stop_from links.now m j other) m }

@@ -1,4 +1,4 @@
-use Rattle.std.proofs.Common.{[], ◌∷◌, ◌++◌, ◌<◌, sym, ◌∙◌, length, rules, arith}
+use Rattle.std.proofs.Common.{[], ◌∷◌, ◌++◌, ◌<◌, sym, ◌∙◌, arith}
 use Rattle.lists.specs.Walk.{item_of}
 use Rattle.lists.proofs.Walks.{onward}
 use Rattle.lists.proofs.Gives.{short, below, room, gives_row, passes_row, given}
@@ -23,16 +23,6 @@ bounds-items-at c =
     let v = item_of a.registers.now a.ends.now a.item a.k in
     let took = rw c.index-row.ensures at (sym c.picks.ensures ∙ c.if-picks.true) in
     room _ v i.1 p.room i.2 (below i.1 p.known.all_rows c.loop-test.true) (short i.1 p.known.all_rows c.loop-test.true) took
-
-pub offset_bounds-items-at : goal.offset_bounds-items-at
-offset_bounds-items-at c =
-    let r : c.loop.at < length c.loop.items = bounds-items-at c in
-    search rules
-
-pub overflow_add-at : goal.overflow_add-at
-overflow_add-at c =
-    let r : c.loop.at < length c.loop.items = bounds-items-at c in
-    search rules
 
 pub bounds-links-row : goal.bounds-links-row
 bounds-links-row c =
