@@ -1,21 +1,24 @@
 -- Bytes put in one after the other, and a number read at a place.
-use Prim.Native.Nat.{ℕ, suc, ◌+◌, ◌*◌, ◌/◌, ◌%◌, ◌≤◌}
+use Prim.Native.Nat.{ℕ, zero, suc, ◌-◌, ◌+◌, ◌/◌, ◌%◌, ◌≤◌}
 use mathlib.Core.Path.{◌≡◌, refl, sym, ap, ap₂, ◌∙◌}
 use mathlib.Core.List.{List, [], ◌∷◌, ◌++◌, append_assoc}
 use native.Mathlib.Nat.{add-zero}
+use Rattle.std.specs.Int.{to_le_bytes, from_le_bytes}
+use Rattle.std.specs.List.{starts_with}
+use mathlib.Core.Bool.{Bool, true, false, ◌&&◌}
+use native.Mathlib.Decide.{ℕ_discrete}
+use borrow.Author.Tests.{eq-eqb, ne_eqb}
+use lib.Dec.{eqb}
+use borrow.Rule.Slice.PartMut.{put_mid, Post-is}
+use mir.Syntax.{w32}
 use native.Mathlib.Numerals.{add-one}
 use native.Mathlib.Omega.{arith}
-use lib.ListN.{length, get_or, set, take, drop, length-append, length-drop, take-append-drop}
-use lib.Seq.{sets, sets-eq, length-take-le, take_at, drop_at, drop-drop, drop-cons}
+use lib.ListN.{length, get_or, take, drop, length-append, length-drop, length-take, take-append-drop}
+use lib.Seq.{length-take-le, take_at, drop_at, drop-drop, drop-cons}
 use Rattle.tables.specs.declared.row.Node.{Node}
 use Rattle.tables.specs.declared.row.Edge.{Edge}
-use Rattle.layout.specs.Numbers.{le, number, number_at, word_at, bits, placed}
-use Rattle.layout.specs.Layout.{mark, version, head, head_bytes, node_bytes, edge_bytes}
-
--- stores one after the other
-pub stored : (at : ℕ) (xs l : List ℕ) → at + length xs ≤ length l → sets l at xs ≡ placed at xs l
-unfolding placed
-stored at xs l h = sets-eq xs l at h ∙ append_assoc (take at l) xs (drop (at + length xs) l)
+use Rattle.layout.specs.Numbers.{le, number, number_at, bits, placed}
+use Rattle.layout.specs.Layout.{mark, version, head, head_bytes, node_bytes, edge_bytes, marked}
 
 pub placed-length : (at : ℕ) (xs l : List ℕ) → at + length xs ≤ length l → length (placed at xs l) ≡ length l
 unfolding placed
@@ -61,29 +64,62 @@ module _ (l : List ℕ) (at : ℕ) where
         three,
       )
 
-  pub half_at : at + 2 ≤ length l → number_at 2 l at ≡ get_or l at 0 + 256 * get_or l (at + 1) 0
-  unfolding number_at number
-  half_at h = rw (two_at h) (omega arith)
+-- a part of l copied over
+pub part_placed : (at : ℕ) (xs l : List ℕ) → put_mid at (at + length xs - at) l xs ≡ placed at xs l
+unfolding placed
+part_placed at xs l = ap (λ (r : List ℕ). take at l ++ (xs ++ r)) (Post-is at (at + length xs) l (omega arith))
 
-  pub word_at_lem : at + 4 ≤ length l
-      → word_at l at ≡ get_or l at 0 + 256 * (get_or l (at + 1) 0 + 256 * (get_or l (at + 2) 0 + 256 * get_or l (at + 3) 0))
-  unfolding number_at number
-  word_at_lem h = rw (four_at h) (omega arith)
-
--- what the stores of a number leave
-pub half_stored : (l : List ℕ) (at x : ℕ) {b₀ b₁ : ℕ} → at + 2 ≤ length l → b₀ ≡ x % 256 → b₁ ≡ x / 256 % 256
-    → set (set l at b₀) (at + 1) b₁ ≡ placed at (le 2 x) l
+-- the first bytes of std's four
+pub low_bytes : (k x : ℕ) → k ≤ 4 → take k (to_le_bytes w32 x) ≡ le k x
 unfolding le
-half_stored l at x h e₀ e₁ = rw (e₀, e₁, add-one at) (stored at (le 2 x) l h)
+low_bytes zero x h = refl
+low_bytes (suc zero) x h = refl
+low_bytes (suc (suc zero)) x h = refl
+low_bytes (suc (suc (suc zero))) x h = ap (λ z. x % 256 ∷ x / 256 % 256 ∷ z ∷ []) (omega arith)
+low_bytes (suc (suc (suc (suc zero)))) x h = ap₂ (λ y z. x % 256 ∷ x / 256 % 256 ∷ y ∷ z ∷ []) (omega arith) (omega arith)
+low_bytes (suc (suc (suc (suc (suc k))))) x h = absurd (omega arith)
 
-pub word_stored : (l : List ℕ) (at x : ℕ) {b₀ b₁ b₂ b₃ : ℕ} → at + 4 ≤ length l
-    → b₀ ≡ x % 256 → b₁ ≡ x / 256 % 256 → b₂ ≡ x / 256 / 256 % 256 → b₃ ≡ x / 256 / 256 / 256 % 256
-    → set (set (set (set l at b₀) (at + 1) b₁) (at + 2) b₂) (at + 3) b₃ ≡ placed at (le 4 x) l
-unfolding le
-word_stored l at x h e₀ e₁ e₂ e₃ =
-    let two : at + 2 ≡ suc (suc at) = omega arith in
-    let three : at + 3 ≡ suc (suc (suc at)) = omega arith in
-    rw (e₀, e₁, e₂, e₃, add-one at, two, three) (stored at (le 4 x) l h)
+abbrev zeros : List ℕ
+zeros = 0 ∷ 0 ∷ 0 ∷ 0 ∷ []
+
+-- few bytes, and zeros up to four, as std reads them
+padded : (xs : List ℕ) → length xs ≤ 4 → from_le_bytes w32 (xs ++ drop (length xs) zeros) ≡ number xs
+unfolding number
+padded [] h = refl
+padded (a ∷ []) h = omega arith
+padded (a ∷ b ∷ []) h = omega arith
+padded (a ∷ b ∷ c ∷ []) h = omega arith
+padded (a ∷ b ∷ c ∷ d ∷ []) h = omega arith
+padded (a ∷ b ∷ c ∷ d ∷ e ∷ xs) h = absurd (omega arith)
+
+pub part_number : (k at : ℕ) (l : List ℕ) → k ≤ 4 → at + k ≤ length l
+    → from_le_bytes w32 (put_mid 0 k zeros (take (at + k - at) (drop at l))) ≡ number_at k l at
+unfolding number_at
+part_number k at l h r =
+    let d : at + k - at ≡ k = omega arith in
+    let e : length (take k (drop at l)) ≡ k = simp (length-take, length-drop) (omega arith) in
+    rw d (rw e at (padded (take k (drop at l)) (omega (arith, e))))
+
+-- the mark, letter by letter
+turned : (x y : ℕ) → eqb x y ≡ eqb y x
+turned x y =
+    elim (ℕ_discrete x y) [
+      | yes q ↦ rw (eq-eqb x y q, eq-eqb y x (sym q))
+      | no q ↦ rw (ne_eqb x y q, ne_eqb y x (λ e. q (sym e)))
+    ]
+
+and_three : (a b c : Bool) → (a && (b && (c && true))) ≡ (a && b && c)
+and_three true true true = refl
+and_three true true false = refl
+and_three true false c = refl
+and_three false b c = refl
+
+pub starts_marked : (l : List ℕ) → 3 ≤ length l → starts_with eqb l mark ≡ marked l
+unfolding marked
+starts_marked [] h = absurd (omega arith)
+starts_marked (a ∷ []) h = absurd (omega arith)
+starts_marked (a ∷ b ∷ []) h = absurd (omega arith)
+starts_marked (a ∷ b ∷ c ∷ l) h = rw (turned 87 a, turned 78 b, turned 84 c) (and_three (eqb a 87) (eqb b 78) (eqb c 84))
 
 -- what bytes after bytes leave
 pub placed-after : (at next : ℕ) (xs ys l : List ℕ) {l₁ l₂ : List ℕ} → next ≡ at + length xs → next + length ys ≤ length l
@@ -132,14 +168,6 @@ unfolding placed
 placed-none at l = ap (λ k. take at l ++ drop k l) (add-zero at) ∙ take-append-drop at l
 
 -- how many bytes
-pub node-length : (row : Node) → length (node_bytes row) ≡ 12
-unfolding le node_bytes
-node-length row = refl
-
-pub edge-length : (row : Edge) → length (edge_bytes row) ≡ 20
-unfolding le edge_bytes
-edge-length row = refl
-
 pub head-length : (n m : ℕ) → length (head n m) ≡ head_bytes
 unfolding le head
 head-length n m = refl

@@ -35,20 +35,12 @@ pub fn image_length(n: u32, m: u32) -> usize
 pub fn bits(w: i32) -> u32
     ensures { result ≡ bits w }
 {
-    if w < 0 {
-        ((w as i64) + 4294967296) as u32
-    } else {
-        w as u32
-    }
+    w.cast_unsigned()
 }
 
 // The weight that 32 bits have.
 pub fn signed(x: u32) -> i32
     ensures { result ≡ signed x }
 {
-    if x < 2147483648 {
-        x as i32
-    } else {
-        ((x as i64) - 4294967296) as i32
-    }
+    x.cast_signed()
 }
