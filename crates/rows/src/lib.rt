@@ -1,17 +1,18 @@
 // Rows added, listed, and cleared.
-// Every call takes the network's five columns and two counts in this order, then its own operands. It answers
+// A call that changes rows takes the network's five columns and two counts in this order, then its own operands. Each answers
 // every input, and is refused 1 before all else where the columns do not fit (`tables::parts::fits`).
 #![tactic(auto)]
 
 ghost use Rattle.std.specs.Prelude.{◌≡◌};
-ghost use Rattle.tables.specs.Net.{entering, leaving};
+ghost use Rattle.tables.specs.Net.{entering, leaving, net_of};
 ghost use Rattle.tables.specs.Answers.{out, told_node, told_edge, told_change, told_items};
 ghost use Rattle.rows.specs.Calls.{add_node, add_edge, all_edge_weights, clear, clear_edges};
 
 use index::{EdgeIndex, NodeIndex, Refusal};
 use tables::parts::{NODE_CELLS, fits};
-use tables::{Changed, EdgeAnswer, Items, Node, NodeAnswer, parts};
+use tables::{Network, Node, parts};
 
+#[tactic(auto, using(tables::proofs::Guards::guards, tables::proofs::Laws::fitting), unfolding(crate::specs::Calls::add_node))]
 pub fn add_node(
     weights: &mut [i32],
     heads: &mut [u32],
@@ -21,22 +22,23 @@ pub fn add_node(
     n: &mut u32,
     m: u32,
     w: i32,
-) -> NodeAnswer
+) -> Result<NodeIndex, Refusal>
     ensures { out (told_node result) (leaving weights.new heads.new registers.now links.now ends.now n.new m)
         ≡ add_node (entering weights.old heads.old registers.now links.now ends.now n.old m) w }
 {
     let a = *n;
     if !fits(weights, heads, registers, links, ends, a, m) {
-        return NodeAnswer::Refused(Refusal::Tables);
+        return Err(Refusal::Tables);
     }
     if weights.len() <= a as usize {
-        return NodeAnswer::Refused(Refusal::Full);
+        return Err(Refusal::Full);
     }
     parts::write_node(weights, heads, a as usize, Node::bare(w));
     *n = a + 1;
-    NodeAnswer::Node(NodeIndex(a))
+    Ok(NodeIndex(a))
 }
 
+#[tactic(auto, using(tables::proofs::Guards::guards, tables::proofs::Laws::fitting), unfolding(crate::specs::Calls::add_edge))]
 pub fn add_edge(
     weights: &[i32],
     heads: &mut [u32],
@@ -48,53 +50,46 @@ pub fn add_edge(
     a: NodeIndex,
     b: NodeIndex,
     w: u32,
-) -> EdgeAnswer
+) -> Result<EdgeIndex, Refusal>
     ensures { out (told_edge result) (leaving weights.now heads.new registers.new links.new ends.new n m.new)
         ≡ add_edge (entering weights.now heads.old registers.old links.old ends.old n m.old) a.0 b.0 w }
 {
     let e = *m;
     if !fits(weights, heads, registers, links, ends, n, e) {
-        return EdgeAnswer::Refused(Refusal::Tables);
+        return Err(Refusal::Tables);
     }
     if registers.len() <= e as usize {
-        return EdgeAnswer::Refused(Refusal::Full);
+        return Err(Refusal::Full);
     }
     if n <= a.0 {
-        return EdgeAnswer::Refused(Refusal::NoNode);
+        return Err(Refusal::NoNode);
     }
     if n <= b.0 {
-        return EdgeAnswer::Refused(Refusal::NoNode);
+        return Err(Refusal::NoNode);
     }
     parts::link_edge(heads, registers, links, ends, e, a, b, w);
     *m = e + 1;
-    EdgeAnswer::Edge(EdgeIndex(e))
+    Ok(EdgeIndex(e))
 }
 
 // The register numbers of all edges, in row order.
-pub fn all_edge_weights(
-    weights: &[i32],
-    heads: &[u32],
-    registers: &[u32],
-    links: &[u32],
-    ends: &[u32],
-    n: u32,
-    m: u32,
-    items: &mut [u32],
-) -> Items
-    ensures { out (told_items result) items.new ≡ all_edge_weights (entering weights.now heads.now registers.now links.now ends.now n m) items.old }
+#[tactic(auto, using(tables::proofs::Guards::guards, tables::proofs::Laws::fitting), unfolding(crate::specs::Calls::all_edge_weights))]
+pub fn all_edge_weights(net: Network, items: &mut [u32]) -> Result<u32, Refusal>
+    ensures { out (told_items result) items.new ≡ all_edge_weights (net_of net.entry) items.old }
 {
-    if !fits(weights, heads, registers, links, ends, n, m) {
-        return Items::Refused(Refusal::Tables);
+    if !net.fits() {
+        return Err(Refusal::Tables);
     }
-    let count = m as usize;
+    let count = net.m as usize;
     if items.len() < count {
-        return Items::Refused(Refusal::Short);
+        return Err(Refusal::Short);
     }
-    parts::copy(&registers[..count], &mut items[..count]);
-    Items::Count(m)
+    items[..count].copy_from_slice(&net.registers[..count]);
+    Ok(net.m)
 }
 
-// Takes out all edges. The nodes keep their weights.
+// Takes out all edges. The nodes keep their net.weights.
+#[tactic(auto, using(tables::proofs::Guards::guards, tables::proofs::Laws::fitting), unfolding(crate::specs::Calls::clear_edges))]
 pub fn clear_edges(
     weights: &[i32],
     heads: &mut [u32],
@@ -103,20 +98,21 @@ pub fn clear_edges(
     ends: &mut [u32],
     n: u32,
     m: &mut u32,
-) -> Changed
+) -> Result<(), Refusal>
     ensures { out (told_change result) (leaving weights.now heads.new registers.new links.new ends.new n m.new)
         ≡ clear_edges (entering weights.now heads.old registers.old links.old ends.old n m.old) }
 {
     if !fits(weights, heads, registers, links, ends, n, *m) {
-        return Changed::Refused(Refusal::Tables);
+        return Err(Refusal::Tables);
     }
     parts::vacate_edges(registers, links, ends, 0, *m as usize);
-    parts::fill(&mut heads[..NODE_CELLS * (n as usize)], EdgeIndex::END.0);
+    heads[..NODE_CELLS * (n as usize)].fill(EdgeIndex::END.0);
     *m = 0;
-    Changed::Done
+    Ok(())
 }
 
 // Takes out all nodes and edges.
+#[tactic(auto, using(tables::proofs::Guards::guards, tables::proofs::Laws::fitting), unfolding(crate::specs::Calls::clear))]
 pub fn clear(
     weights: &mut [i32],
     heads: &mut [u32],
@@ -125,16 +121,16 @@ pub fn clear(
     ends: &mut [u32],
     n: &mut u32,
     m: &mut u32,
-) -> Changed
+) -> Result<(), Refusal>
     ensures { out (told_change result) (leaving weights.new heads.new registers.new links.new ends.new n.new m.new)
         ≡ clear (entering weights.old heads.old registers.old links.old ends.old n.old m.old) }
 {
     if !fits(weights, heads, registers, links, ends, *n, *m) {
-        return Changed::Refused(Refusal::Tables);
+        return Err(Refusal::Tables);
     }
     parts::vacate_edges(registers, links, ends, 0, *m as usize);
     parts::vacate_nodes(weights, heads, 0, *n as usize);
     *n = 0;
     *m = 0;
-    Changed::Done
+    Ok(())
 }

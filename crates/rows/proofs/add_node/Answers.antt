@@ -1,27 +1,12 @@
-use Rattle.std.proofs.Common.{◌≡◌, ◌∙◌, ◌+◌, arith, rules, w32, SFits}
+use Rattle.std.proofs.Common.{◌≡◌, ◌∙◌, ◌+◌, rules, w32, SFits}
 use Rattle.std.proofs.lemmas.Int.{to_z-of_z}
 use Rattle.tables.specs.Net.{net, with_counts}
 use Rattle.tables.specs.Answers.{out, done}
 use Rattle.tables.specs.Rows.{bare, with_node}
 use Rattle.tables.proofs.Guards.{guards}
-use Rattle.tables.proofs.Laws.{fitting}
 use Rattle.rows.specs.Calls.{add_node}
 use Rattle.rows.proofs.Served.{node-written}
 use Rattle.rows.proofs.add_node.Goals as goal
-
-pub returns-then-not-fits : goal.returns-then-not-fits
-unfolding add_node
-returns-then-not-fits c = search guards depth 9
-
-pub returns-then-weights-a : goal.returns-then-weights-a
-unfolding add_node
-returns-then-weights-a c = search guards depth 9
-
-pub write_node-requires : goal.write_node-requires
-write_node-requires c = let f = fitting c.fits.ensures c.if-not-fits.false in record { weights_hold = omega arith; heads_hold = omega arith }
-
-pub overflow_add-n : goal.overflow_add-n
-overflow_add-n c = let f = fitting c.fits.ensures c.if-not-fits.false in omega arith
 
 pub returns : goal.returns
 unfolding add_node

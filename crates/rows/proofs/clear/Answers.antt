@@ -1,23 +1,12 @@
-use Rattle.std.proofs.Common.{◌≡◌, ◌∙◌, arith}
+use Rattle.std.proofs.Common.{◌≡◌, ◌∙◌}
 use Prim.{tt}
 use Rattle.tables.specs.Net.{net, with_counts}
 use Rattle.tables.specs.Answers.{out, done}
 use Rattle.tables.specs.Rows.{vacant_nodes, vacant_edges}
 use Rattle.tables.proofs.Guards.{guards}
-use Rattle.tables.proofs.Laws.{fitting}
 use Rattle.rows.specs.Calls.{clear}
 use Rattle.rows.proofs.Served.{all_vacated}
 use Rattle.rows.proofs.clear.Goals as goal
-
-pub returns-then-not-fits : goal.returns-then-not-fits
-unfolding clear
-returns-then-not-fits c = search guards depth 9
-
-pub vacate_edges-requires : goal.vacate_edges-requires
-vacate_edges-requires c = let f = fitting c.fits.ensures c.if-not-fits.false in record { ordered = omega arith; registers_hold = omega arith; links_hold = omega arith; ends_hold = omega arith }
-
-pub vacate_nodes-requires : goal.vacate_nodes-requires
-vacate_nodes-requires c = let f = fitting c.fits.ensures c.if-not-fits.false in record { ordered = omega arith; weights_hold = omega arith; heads_hold = omega arith }
 
 pub returns : goal.returns
 unfolding clear

@@ -12,16 +12,6 @@ use Rattle.rows.specs.Calls.{clear_edges}
 use Rattle.rows.proofs.Served.{edges-vacated}
 use Rattle.rows.proofs.clear_edges.Goals as goal
 
-pub returns-then-not-fits : goal.returns-then-not-fits
-unfolding clear_edges
-returns-then-not-fits c = search guards depth 9
-
-pub vacate_edges-requires : goal.vacate_edges-requires
-vacate_edges-requires c = let f = fitting c.fits.ensures c.if-not-fits.false in record { ordered = omega arith; registers_hold = omega arith; links_hold = omega arith; ends_hold = omega arith }
-
-pub slice_bounds-fill-end : goal.slice_bounds-fill-end
-slice_bounds-fill-end c = let f = fitting c.fits.ensures c.if-not-fits.false in omega arith
-
 pub slice_bounds-fill-end-2 : goal.slice_bounds-fill-end-2
 slice_bounds-fill-end-2 c = let f = fitting c.fits.ensures c.if-not-fits.false in sym (length-take-le _ _ (omega arith))
 
@@ -30,7 +20,7 @@ unfolding clear_edges
 returns c =
     let f = fitting c.fits.ensures c.if-not-fits.false in
     let room : node_cells * c.args.n ≤ length c.args.heads.now = omega arith in
-    let heads = prefix_filled c.args.heads.now (node_cells * c.args.n) _ _ room c.fill.ensures in
+    let heads = prefix_filled c.args.heads.now (node_cells * c.args.n) _ _ room (c.fill.ensures.after (λ y h. h)) in
     let g = net c.args.weights.now c.args.heads.now c.args.registers.now c.args.links.now c.args.ends.now c.args.n c.args.m.now in
     let past : out (done tt) (with_counts (with_nodes (vacant_edges g 0 g.m) g.weights (filled g.heads 0 (node_cells * g.n) END)) g.n 0) ≡ clear_edges g =
     search guards depth 9 in
