@@ -1,29 +1,27 @@
 -- Two legs into one table, over plain lists.
+use Rattle.std.specs.Prelude.{min, Option, Some, None, Result, Ok, Err}
 use Prim.Native.Nat.{ℕ, ◌+◌, ◌-◌, ◌≤◌, ◌<◌}
 use mathlib.Core.Path.{◌≡◌, refl, sym, ap, ap₂, ◌∙◌}
-use mathlib.Core.Bool.{Bool, true, false, cond, ◌&&◌}
+use mathlib.Core.Bool.{Bool, true, false, ◌&&◌}
 use mathlib.Core.List.{List, [], ◌++◌, append_assoc, append-nil}
-use borrow.Author.Tests.{ltb-true, ltb-false, le-leb, lt-leb, leb-true, leb-false}
+use borrow.Author.Tests.{le-leb, lt-leb, leb-true, leb-false}
 use borrow.Rule.Slice.PartMut.{put_mid, mid_len}
 use native.Mathlib.Omega.{arith}
-use lib.Dec.{ltb, leb}
+use lib.Dec.{leb}
 use lib.ListN.{length, take, drop, length-append, length-map, length-drop, drop_of_length-le}
 use lib.Seq.{take_all, take_at, drop_at, drop-drop}
+use Rattle.index.specs.declared.Refusal.{Refusal}
 use Rattle.index.specs.declared.Refusal.TheVariants.{Broken, Short}
 use Rattle.tables.specs.Answers.{Out, out, done, refused, unless, onto}
 use Rattle.lists.specs.declared.Item.{Item}
 use Rattle.lists.specs.declared.Item.TheVariants.{Number, Near, Far}
-use Rattle.lists.specs.declared.Extents.{Extents}
-use Rattle.lists.specs.declared.Extents.TheVariants as Extents·
 use Rattle.lists.specs.Walk.{cell, picked, rows_from, stop_from, item_of}
 use Rattle.lists.specs.Parts.{extents_of, written}
 use Rattle.lists.proofs.Counts.{filter-length, extents_broken, extents_rows}
 use Rattle.lists.proofs.Gives.{walk-length}
 use Rattle.legs.specs.declared.parts.Leg.{Leg}
-use Rattle.legs.specs.declared.parts.Settled.TheVariants as Settled·
 use Rattle.legs.specs.declared.parts.Prepared.{Prepared}
-use Rattle.legs.specs.declared.parts.Prepared.TheVariants as Prepared·
-use Rattle.legs.specs.Legs.{leg_takes, leg_gives, legs_give, leg_ends, legs_told, settled, prepared, least, Tables3, tables3, room_for, edges_told, Legs, Ready}
+use Rattle.legs.specs.Legs.{leg_takes, leg_gives, legs_give, leg_ends, legs_told, settled, prepared, Tables3, tables3, room_for, edges_told, Legs, Ready}
 
 module _ (links ends : List ℕ) (m : ℕ) (leg : Leg) where
   -- a leg takes no more items than its list has rows, and there are at most m
@@ -40,40 +38,40 @@ pub record Both (links : List ℕ) (m : ℕ) (first second : Leg) (rows others :
   pub second_rows : length (rows_from links m second.k second.link) ≡ others
 
 -- what the extents of their lists say of two legs
-abbrev extents_at : List ℕ → ℕ → Leg → Leg → Extents
+abbrev extents_at : List ℕ → ℕ → Leg → Leg → Option (ℕ × ℕ)
 extents_at links m first second =
     extents_of (rows_from links m first.k first.link) (stop_from links m first.k first.link)
     (rows_from links m second.k second.link) (stop_from links m second.k second.link) m
 
-pub both-known : (links : List ℕ) (m : ℕ) (first second : Leg) {rows others : ℕ} → extents_at links m first second ≡ Extents·.Rows rows others
+pub both-known : (links : List ℕ) (m : ℕ) (first second : Leg) {rows others : ℕ} → extents_at links m first second ≡ Some (rows, others)
     → Both links m first second rows others
 both-known links m first second h =
     let e = extents_rows _ _ _ _ _ h in
     record { both_end = e.0; first_rows = e.1; second_rows = e.2 }
 
 module _ (links ends : List ℕ) (m : ℕ) (first second : Leg) where
-  pub none-settled : extents_at links m first second ≡ Extents·.Broken → Settled·.Broken ≡ settled links ends m first second
+  pub none-settled : extents_at links m first second ≡ None → None ≡ settled links ends m first second
   none-settled h = rw (extents_broken _ _ _ _ _ h)
 
   pub both-settled : {rows others mid more : ℕ} → Both links m first second rows others → mid ≡ length (leg_takes links ends m first) → more ≡ length (leg_takes links ends m second)
-      → Settled·.Rows rows mid others (mid + more) ≡ settled links ends m first second
+      → Some (record { rows = rows; taken = mid; others = others; count = mid + more }) ≡ settled links ends m first second
   both-settled b p q = rw (b.both_end, b.first_rows, b.second_rows, p, q)
 
 module _ (links ends : List ℕ) (m : ℕ) (first second : Leg) (room : ℕ) where
-  pub one_broken : extents_at links m first second ≡ Extents·.Broken → Prepared·.Broken ≡ prepared links ends m first second room
+  pub one_broken : extents_at links m first second ≡ None → Err Broken ≡ prepared links ends m first second room
   unfolding prepared
   one_broken h = rw (extents_broken _ _ _ _ _ h)
 
   module _ {rows others : ℕ} (b : Both links m first second rows others) where
     pub room_for_items : length (leg_takes links ends m first) + length (leg_takes links ends m second) ≤ room
-        → Prepared·.Rows rows others ≡ prepared links ends m first second room
+        → Ok (record { rows = rows; others = others }) ≡ prepared links ends m first second room
     unfolding prepared
     room_for_items l = rw (b.both_end, le-leb _ _ l, b.first_rows, b.second_rows)
 
-    pub room_for-rows : rows + others ≤ room → Prepared·.Rows rows others ≡ prepared links ends m first second room
+    pub room_for-rows : rows + others ≤ room → Ok (record { rows = rows; others = others }) ≡ prepared links ends m first second room
     room_for-rows l = room_for_items (omega (arith, items_few links ends m first, items_few links ends m second, b.first_rows, b.second_rows))
 
-    pub no_room : room < length (leg_takes links ends m first) + length (leg_takes links ends m second) → Prepared·.Short ≡ prepared links ends m first second room
+    pub no_room : room < length (leg_takes links ends m first) + length (leg_takes links ends m second) → Err Short ≡ prepared links ends m first second room
     unfolding prepared
     no_room l = rw (b.both_end, lt-leb _ _ l)
 
@@ -83,17 +81,17 @@ pub record Fitting (links ends : List ℕ) (m : ℕ) (first second : Leg) (room 
   pub second_rows : length (rows_from links m second.k second.link) ≡ others
   pub holds : length (leg_takes links ends m first) + length (leg_takes links ends m second) ≤ room
 
-pub both-fit : (links ends : List ℕ) (m : ℕ) (first second : Leg) (room : ℕ) {rows others : ℕ} → prepared links ends m first second room ≡ Prepared·.Rows rows others
-    → Fitting links ends m first second room rows others
+pub both-fit : (links ends : List ℕ) (m : ℕ) (first second : Leg) (room : ℕ) {p : Prepared} → prepared links ends m first second room ≡ Ok p
+    → Fitting links ends m first second room p.rows p.others
 unfolding prepared
-both-fit links ends m first second room {rows} {others} =
+both-fit links ends m first second room {p} =
     go (leg_ends links m first && leg_ends links m second) (leb (length (leg_takes links ends m first) + length (leg_takes links ends m second)) room) refl
   where
     go : (b d : Bool) → leb (length (leg_takes links ends m first) + length (leg_takes links ends m second)) room ≡ d
-        → unless b Prepared·.Broken
-        (unless d Prepared·.Short (Prepared·.Rows (length (rows_from links m first.k first.link)) (length (rows_from links m second.k second.link))))
-        ≡ Prepared·.Rows rows others
-        → Fitting links ends m first second room rows others
+        → ◌≡◌ {A = Result Prepared Refusal} (unless b (Err Broken)
+        (unless d (Err Short) (Ok (record { rows = length (rows_from links m first.k first.link); others = length (rows_from links m second.k second.link) }))))
+        (Ok p)
+        → Fitting links ends m first second room p.rows p.others
     go true true q h = record { first_rows = cc; second_rows = cc; holds = leb-true _ _ q }
     go true false q h = absurd (let z : ◌≡◌ {A = ℕ} 0 1 = cc in omega arith)
     go false d q h = absurd (let z : ◌≡◌ {A = ℕ} 0 1 = cc in omega arith)
@@ -132,6 +130,14 @@ pub written-long : (xs items l : List ℕ) {r : ℕ} → out (done r) l ≡ writ
 unfolding written
 written-long xs items l p h = ap (λ o. length o.after) p ∙ length-append xs (drop (length xs) items) ∙ omega (arith, length-drop (length xs) items)
 
+-- so the items that a leg gives to a table that has room for them
+pub leg_given : (registers links ends : List ℕ) (m : ℕ) (item : Item) (leg : Leg) (items l : List ℕ) {r : ℕ}
+    → out (done r) l ≡ written (leg_gives registers links ends m item leg) items → length (leg_takes links ends m leg) ≤ length items
+    → (r ≡ length (leg_takes links ends m leg)) × (length l ≡ length items)
+leg_given registers links ends m item leg items l p h =
+    let n = gives-length registers links ends m item leg in
+    (written-many _ items l p ∙ n, written-long _ items l p (omega arith))
+
 -- the part behind them has room for the others
 pub room_behind : (l : List ℕ) (mid n : ℕ) → mid + n ≤ length l → n ≤ length (take (length l - mid) (drop mid l))
 room_behind l mid n h = rw (mid_len mid (length l) l (omega arith)) (omega arith)
@@ -146,10 +152,9 @@ module _ (registers links ends : List ℕ) (m : ℕ) (item : Item) (first second
   items_few_both = omega (arith, items_length, leg_few links ends m first, leg_few links ends m second)
 
 -- what a walk tells, by how its legs were prepared
-abbrev pub by : {S : Type 0} → Prepared → Out ℕ S → S → Out ℕ S
-by (Prepared·.Rows rows others) given table = given
-by Prepared·.Broken given table = out (refused Broken 0) table
-by Prepared·.Short given table = out (refused Short 0) table
+abbrev pub by : {S : Type 0} → Result Prepared Refusal → Out ℕ S → S → Out ℕ S
+by (Ok both) given table = given
+by (Err why) given table = out (refused why 0) table
 
 -- the tests of a walk, with whether there is room
 abbrev tests : {S : Type 0} → List ℕ → ℕ → Leg → Leg → Bool → Out ℕ S → S → Out ℕ S
@@ -161,13 +166,13 @@ by_tests : {S : Type 0} (links ends : List ℕ) (m : ℕ) (first second : Leg) (
     ≡ tests links m first second (leb (length (leg_takes links ends m first) + length (leg_takes links ends m second)) room) given table
 unfolding prepared
 by_tests links ends m first second room given table =
-    go (leg_ends links m first && leg_ends links m second) (leb (length (leg_takes links ends m first) + length (leg_takes links ends m second)) room) _ _
+    go (leg_ends links m first && leg_ends links m second) (leb (length (leg_takes links ends m first) + length (leg_takes links ends m second)) room) _
   where
-    go : (b d : Bool) (rows others : ℕ) → by (unless b Prepared·.Broken (unless d Prepared·.Short (Prepared·.Rows rows others))) given table
+    go : (b d : Bool) (both : Prepared) → by (unless b (Err Broken) (unless d (Err Short) (Ok both))) given table
         ≡ unless b (out (refused Broken 0) table) (unless d (out (refused Short 0) table) given)
-    go true true rows others = refl
-    go true false rows others = refl
-    go false d rows others = refl
+    go true true both = refl
+    go true false both = refl
+    go false d both = refl
 
 pub legs_by : (registers links ends : List ℕ) (m : ℕ) (item : Item) (first second : Leg) (table : List ℕ)
     → by (prepared links ends m first second (length table)) (written (legs_give registers links ends m item first second) table) table
@@ -179,71 +184,53 @@ legs_by registers links ends m item first second table =
     ∙ ap (λ n. tests links m first second (leb n (length table)) given table) (sym (items_length registers links ends m item first second))
 
 -- the same by what the legs' preparation was found to be
-pub told_by : (registers links ends : List ℕ) (m : ℕ) (item : Item) (first second : Leg) (table : List ℕ) {r v : Prepared}
+pub told_by : (registers links ends : List ℕ) (m : ℕ) (item : Item) (first second : Leg) (table : List ℕ) {r v : Result Prepared Refusal}
     → r ≡ prepared links ends m first second (length table) → r ≡ v
     → by v (written (legs_give registers links ends m item first second) table) table ≡ legs_told registers links ends m item first second table
 told_by registers links ends m item first second table p e = rw (← e, p) (legs_by registers links ends m item first second table)
 
 -- three tables have room where the shortest has it
-leb_least : (n a b : ℕ) → leb n (least a b) ≡ (leb n a && leb n b)
-unfolding least
-leb_least n a b = go (ltb b a) refl (leb n a) refl (leb n b) refl
+leb-min : (n a b : ℕ) → leb n (min a b) ≡ (leb n a && leb n b)
+leb-min n a b = go (leb n a) refl (leb n b) refl
   where
-    go : (z : Bool) → ltb b a ≡ z → (x : Bool) → leb n a ≡ x → (y : Bool) → leb n b ≡ y → leb n (cond z b a) ≡ (x && y)
-    go true r true p y q = q
-    go true r false p y q = lt-leb n b (omega (arith, ltb-true b a r, leb-false n a p))
-    go false r true p true q = p
-    go false r true p false q = absurd (omega (arith, ltb-false b a r, leb-true n a p, leb-false n b q))
-    go false r false p y q = p
+    go : (x : Bool) → leb n a ≡ x → (y : Bool) → leb n b ≡ y → leb n (min a b) ≡ (x && y)
+    go true p true q = le-leb n (min a b) (omega (arith, leb-true n a p, leb-true n b q))
+    go true p false q = lt-leb n (min a b) (omega (arith, leb-false n b q))
+    go false p y q = lt-leb n (min a b) (omega (arith, leb-false n a p))
 
-pub least-below : (a b : ℕ) → (least a b ≤ a) × (least a b ≤ b)
-unfolding least
-least-below a b = go (ltb b a) refl
-  where
-    go : (z : Bool) → ltb b a ≡ z → (cond z b a ≤ a) × (cond z b a ≤ b)
-    go true r = (omega (arith, ltb-true b a r), omega arith)
-    go false r = (omega arith, omega (arith, ltb-false b a r))
+-- the cells of the shortest of three tables
+abbrev pub shortest : Tables3 → ℕ
+shortest t = min (min (length t.numbers) (length t.sources)) (length t.targets)
 
-and_assoc : (a b c : Bool) → (a && (b && c)) ≡ (a && b && c)
-and_assoc true b c = refl
-and_assoc false b c = refl
-
-room_least : (n : ℕ) (t : Tables3) → leb n (least (length t.numbers) (least (length t.sources) (length t.targets))) ≡ room_for n t
+room_least : (n : ℕ) (t : Tables3) → leb n (shortest t) ≡ room_for n t
 room_least n t =
-    leb_least n (length t.numbers) (least (length t.sources) (length t.targets))
-    ∙ ap (λ b. leb n (length t.numbers) && b) (leb_least n (length t.sources) (length t.targets))
-    ∙ and_assoc (leb n (length t.numbers)) _ _
+    leb-min n (min (length t.numbers) (length t.sources)) (length t.targets)
+    ∙ ap (λ b. b && leb n (length t.targets)) (leb-min n (length t.numbers) (length t.sources))
 
 pub edges_by : (registers links ends : List ℕ) (m : ℕ) (first second : Leg) (t : Tables3)
     → let items : Item → List ℕ = λ item. legs_give registers links ends m item first second in
-    by (prepared links ends m first second (least (length t.numbers) (least (length t.sources) (length t.targets))))
+    by (prepared links ends m first second (shortest t))
     (out (done (length (items Number))) (tables3 (onto (items Number) t.numbers) (onto (items Near) t.sources) (onto (items Far) t.targets)))
     t
     ≡ edges_told registers links ends m first second t
 edges_by registers links ends m first second t =
-    let room = least (length t.numbers) (least (length t.sources) (length t.targets)) in
+    let room = shortest t in
     let items : Item → List ℕ = λ item. legs_give registers links ends m item first second in
     let given = out (done (length (items Number))) (tables3 (onto (items Number) t.numbers) (onto (items Near) t.sources) (onto (items Far) t.targets)) in
     by_tests links ends m first second room given t
     ∙ ap (λ d. tests links m first second d given t) (room_least _ t ∙ ap (λ n. room_for n t) (sym (items_length registers links ends m Number first second)))
 
-pub edges_told_by : (registers links ends : List ℕ) (m : ℕ) (first second : Leg) (t : Tables3) {q l : ℕ} {r v : Prepared}
-    → q ≡ least (length t.sources) (length t.targets) → l ≡ least (length t.numbers) q → r ≡ prepared links ends m first second l → r ≡ v
+pub edges_told_by : (registers links ends : List ℕ) (m : ℕ) (first second : Leg) (t : Tables3) {l : ℕ} {r v : Result Prepared Refusal}
+    → l ≡ shortest t → r ≡ prepared links ends m first second l → r ≡ v
     → let items : Item → List ℕ = λ item. legs_give registers links ends m item first second in
     by v (out (done (length (items Number))) (tables3 (onto (items Number) t.numbers) (onto (items Near) t.sources) (onto (items Far) t.targets))) t
     ≡ edges_told registers links ends m first second t
-edges_told_by registers links ends m first second t o u p e = rw (← e, p, u, o) (edges_by registers links ends m first second t)
+edges_told_by registers links ends m first second t u p e = rw (← e, p, u) (edges_by registers links ends m first second t)
 
 -- both legs may be given to a table that is no shorter than the shortest
-pub shortest : (a b d : ℕ) {q l : ℕ} → q ≡ least b d → l ≡ least a q → (l ≤ a) × (l ≤ b) × (l ≤ d)
-shortest a b d o u =
-    let t = least-below b d in
-    let s = least-below a (least b d) in
-    rw (u, o) (s.0, omega (arith, s.1, t.0), omega (arith, s.1, t.1))
-
-pub ready : {registers links ends : List ℕ} {m : ℕ} {first second : Leg} {rows others room items : ℕ} {r : Prepared}
-    → Legs (length registers) (length links) (length ends) m first second → r ≡ prepared links ends m first second room → r ≡ Prepared·.Rows rows others
-    → room ≤ items → Ready registers links ends m first rows second others items
+pub ready : {registers links ends : List ℕ} {m : ℕ} {first second : Leg} {room items : ℕ} {r : Result Prepared Refusal} {both : Prepared}
+    → Legs (length registers) (length links) (length ends) m first second → r ≡ prepared links ends m first second room → r ≡ Ok both
+    → room ≤ items → Ready registers links ends m first both.rows second both.others items
 ready l p e h =
     let f = both-fit _ _ _ _ _ _ (sym p ∙ e) in
     record { legs = l; first_rows = f.first_rows; second_rows = f.second_rows; room = omega (arith, f.holds, h) }

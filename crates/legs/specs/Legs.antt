@@ -1,5 +1,6 @@
 -- A leg of a walk: one direction from a link on, and which rows it takes.
-use Rattle.std.specs.Prelude.{ℕ, ◌+◌, ◌*◌, ◌<◌, ◌≤◌, ◌≡◌, Bool, cond, not, ◌&&◌, List, ◌++◌, map, ltb, leb, length, get_or}
+use Rattle.std.specs.Prelude.{ℕ, ◌+◌, ◌*◌, ◌<◌, ◌≤◌, ◌≡◌, Bool, not, ◌&&◌, List, ◌++◌, map, ltb, leb, length, get_or, Option, Some, None, Result, Ok, Err}
+use Rattle.index.specs.declared.Refusal.{Refusal}
 use Rattle.index.specs.declared.Refusal.TheVariants.{Broken, Short}
 use Rattle.tables.specs.Net.{edge_rows, node_cell, edge_cells}
 use Rattle.tables.specs.Answers.{Out, out, done, refused, unless, onto, give}
@@ -9,10 +10,7 @@ use Rattle.lists.specs.declared.Pick.{Pick}
 use Rattle.lists.specs.Walk.{rows_from, taken_from, stop_from, item_of}
 use Rattle.legs.specs.declared.parts.Leg.{Leg}
 use Rattle.legs.specs.declared.parts.Settled.{Settled}
-use Rattle.legs.specs.declared.parts.Settled.TheVariants.{Rows}
-use Rattle.legs.specs.declared.parts.Settled.TheVariants as Settled·
 use Rattle.legs.specs.declared.parts.Prepared.{Prepared}
-use Rattle.legs.specs.declared.parts.Prepared.TheVariants as Prepared·
 
 -- the leg from the head of node a's list in direction k
 abbrev pub leg_at : List ℕ → ℕ → Pick → ℕ → Leg
@@ -29,25 +27,22 @@ abbrev pub leg_ends : List ℕ → ℕ → Leg → Bool
 leg_ends links m leg = not (ltb (stop_from links m leg.k leg.link) m)
 
 -- two legs counted, unless a list does not end: the rows of the first, its items, the rows of the second, the items of both
-abbrev pub settled : List ℕ → List ℕ → ℕ → Leg → Leg → Settled
+abbrev pub settled : List ℕ → List ℕ → ℕ → Leg → Leg → Option Settled
 settled links ends m first second =
-    unless (leg_ends links m first && leg_ends links m second) Settled·.Broken
-    (Rows
-    (length (rows_from links m first.k first.link))
-    (length (leg_takes links ends m first))
-    (length (rows_from links m second.k second.link))
-    (length (leg_takes links ends m first) + length (leg_takes links ends m second)))
+    unless (leg_ends links m first && leg_ends links m second) None
+    (Some (record {
+      rows = length (rows_from links m first.k first.link);
+      taken = length (leg_takes links ends m first);
+      others = length (rows_from links m second.k second.link);
+      count = length (leg_takes links ends m first) + length (leg_takes links ends m second);
+    }))
 
 -- two legs before anything is written: whether both lists end and the items fit a table of `room` cells; then the rows of the first and of the second
-unfoldable pub prepared : List ℕ → List ℕ → ℕ → Leg → Leg → ℕ → Prepared
+unfoldable pub prepared : List ℕ → List ℕ → ℕ → Leg → Leg → ℕ → Result Prepared Refusal
 prepared links ends m first second room =
-    unless (leg_ends links m first && leg_ends links m second) Prepared·.Broken
-    (unless (leb (length (leg_takes links ends m first) + length (leg_takes links ends m second)) room) Prepared·.Short
-    (Prepared·.Rows (length (rows_from links m first.k first.link)) (length (rows_from links m second.k second.link))))
-
--- the lesser of two numbers
-unfoldable pub least : ℕ → ℕ → ℕ
-least a b = cond (ltb b a) b a
+    unless (leg_ends links m first && leg_ends links m second) (Err Broken)
+    (unless (leb (length (leg_takes links ends m first) + length (leg_takes links ends m second)) room) (Err Short)
+    (Ok (record { rows = length (rows_from links m first.k first.link); others = length (rows_from links m second.k second.link) })))
 
 -- what both give, one after the other, into an output table: 6 where either list is broken, before 7
 abbrev pub legs_give : List ℕ → List ℕ → List ℕ → ℕ → Item → Leg → Leg → List ℕ
