@@ -12,6 +12,8 @@ use borrow.Author.Tests.{eq-eqb, ne_eqb, ltb-true}
 use lib.Dec.{ltb}
 use lib.ListN.{length, set, length-set, length-replicate}
 use lib.Seq.{get_or-set_same, get_or-set_other}
+use Rattle.std.specs.Prelude.{Result, Ok, Err}
+use Rattle.index.specs.declared.Refusal.{Refusal}
 use Rattle.index.specs.declared.Refusal.TheVariants.{Broken, Taken, Beyond}
 use Rattle.index.specs.Index.{END}
 use Rattle.index.specs.Refusals.{refusal_no}
@@ -26,17 +28,15 @@ use Rattle.rows.specs.Calls.{linked, add_edge, clear_edges, clear}
 use Rattle.directory.specs.Directory.{entry, none, row_named, RightFor, Filed, filed, register_of, beside}
 use Rattle.directory.proofs.Laws.{right_more, right_again, right_none}
 use Rattle.directory.proofs.Beside.{beside-length}
-use Rattle.dirrows.specs.declared.parts.Claim.{Claim}
-use Rattle.dirrows.specs.declared.parts.Claim.TheVariants as Claim·
 use Rattle.dirrows.specs.Calls.{claimed, if_free, entered, reclaimed, reentered, reweighed, all_out}
 use Rattle.dirrows.specs.Calls.{add_edge_filed, set_edge_weight_filed, clear_edges_filed, clear_filed}
 use Rattle.dirrows.proofs.Ways.{claim_beyond, claim_none, claim_own, claim_taken, add_ends}
 
 -- a number is refused 12 where it is not below the length, 11 where its entry names another row, and else it is free
 pub claim_ways : (d : List ℕ) (w e : ℕ)
-    → ((claimed d w e ≡ Claim·.Refused Beyond) × (length d ≤ w))
-    ⊎ (((claimed d w e ≡ Claim·.Refused Taken) × (w < length d) × (entry d w ≡ END → ⊥) × (entry d w ≡ e → ⊥))
-    ⊎ ((claimed d w e ≡ Claim·.Free) × (w < length d) × ((entry d w ≡ END) ⊎ (entry d w ≡ e))))
+    → ((claimed d w e ≡ Err Beyond) × (length d ≤ w))
+    ⊎ (((claimed d w e ≡ Err Taken) × (w < length d) × (entry d w ≡ END → ⊥) × (entry d w ≡ e → ⊥))
+    ⊎ ((claimed d w e ≡ Ok tt) × (w < length d) × ((entry d w ≡ END) ⊎ (entry d w ≡ e))))
 claim_ways d w e =
     elim (dec_lt w (length d)) [
       | no h ↦ inl (sym (claim_beyond d w e (omega arith)), omega arith)
@@ -52,8 +52,8 @@ claim_ways d w e =
     ]
 
 -- what holds where a number is refused, and where it is free
-by_claim : (P : Claim → Type 0) (d : List ℕ) (w e : ℕ) → P (Claim·.Refused Beyond) → P (Claim·.Refused Taken)
-    → (w < length d → (entry d w ≡ END) ⊎ (entry d w ≡ e) → P Claim·.Free) → P (claimed d w e)
+by_claim : (P : Result Unit Refusal → Type 0) (d : List ℕ) (w e : ℕ) → P (Err Beyond) → P (Err Taken)
+    → (w < length d → (entry d w ≡ END) ⊎ (entry d w ≡ e) → P (Ok tt)) → P (claimed d w e)
 by_claim P d w e p q r =
     ⊎_elim (λ x. rw x.0 p) (λ y. ⊎_elim (λ x. rw x.0 q) (λ x. rw x.0 (r x.1 x.2)) y) (claim_ways d w e)
 
@@ -95,8 +95,8 @@ module _ (f : Filed) (t : fits f.net ≡ true) (R : RightFor f) where
   reweighed-right zeros values e w l =
       let b = fit in
       let h = with_edges g (set g.registers e w) g.links g.ends in
-      let P : Claim → Type 0 = λ c. RightFor (if_free f zeros c (out (done values) (filed h (reentered (register_of g) d e w)))).after in
-      tested P (row_named (register_of g) d e) (Claim·.Refused Broken) (claimed d w e) R (λ n.
+      let P : Result Unit Refusal → Type 0 = λ c. RightFor (if_free f zeros c (out (done values) (filed h (reentered (register_of g) d e w)))).after in
+      tested P (row_named (register_of g) d e) (Err Broken) (claimed d w e) R (λ n.
       by_claim P d w e R R (λ i q.
       right_again (register_of g) g.m d R (omega (arith, few)) (register_of h) e w l i q
       (get_or-set_same g.registers e w 0 (omega (arith, b.m_within)))
@@ -119,10 +119,10 @@ module _ (f : Filed) (R : RightFor f) where
   cleared_right = tested (λ (o : Out Unit Net). RightFor (all_out f o).after) (fits f.net) _ _ R (λ t. right_none _ (length f.directory))
 
 -- the directory's length is the caller's: no call changes it
-free_length : {A : Type 0} (f : Filed) (zeros : A) (c : Claim) (rest : Out A Filed) → length rest.after.directory ≡ length f.directory
+free_length : {A : Type 0} (f : Filed) (zeros : A) (c : Result Unit Refusal) (rest : Out A Filed) → length rest.after.directory ≡ length f.directory
     → length (if_free f zeros c rest).after.directory ≡ length f.directory
-free_length f zeros Claim·.Free rest p = p
-free_length f zeros (Claim·.Refused why) rest p = refl
+free_length f zeros (Ok u) rest p = p
+free_length f zeros (Err why) rest p = refl
 
 module _ (f : Filed) where
   pub entered-length : (w : ℕ) (o : Out ℕ Net) → length (entered f w o).after.directory ≡ length f.directory

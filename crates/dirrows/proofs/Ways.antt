@@ -9,40 +9,39 @@ use borrow.Author.Tests.{eq-eqb, ne_eqb, lt-ltb, le-ltb, ltb-true}
 use lib.Dec.{ltb}
 use lib.IntN.{ℤ}
 use lib.ListN.{length, set}
+use Rattle.std.specs.Prelude.{Result, Ok, Err}
 use Rattle.index.specs.declared.Refusal.{Refusal}
 use Rattle.index.specs.declared.Refusal.TheVariants.{Tables, Full, NoNode, Taken, Beyond}
 use Rattle.index.specs.Index.{END, is_end}
 use Rattle.index.specs.Refusals.{refusal_no}
 use Rattle.index.proofs.Laws.{not_zero}
 use Rattle.tables.specs.Net.{Net, Lent, net, fits}
-use Rattle.tables.specs.Answers.{Told, Out, out, done, refused}
+use Rattle.tables.specs.Answers.{Told, Out, out, done, refused, told_as}
 use Rattle.tables.proofs.Laws.{both, tested, fit-says}
 use Rattle.tables.proofs.Guards.{FitOf}
 use Rattle.lookups.specs.Lookups.{set_edge_weight}
 use Rattle.rows.specs.Calls.{linked, add_edge}
 use Rattle.directory.specs.Directory.{entry, none, Filed, filed}
 use Rattle.directory.proofs.Beside.{beside-refused, beside-served}
-use Rattle.dirrows.specs.declared.parts.Claim.{Claim}
-use Rattle.dirrows.specs.declared.parts.Claim.TheVariants as Claim·
 use Rattle.dirrows.specs.Calls.{claimed, entered, reweighed, all_out, add_edge_filed, set_edge_weight_filed}
 use Rattle.dirrows.specs.Parts.{claim_no, Adds, Reweighs}
 
 -- a claim, by what its entry x is
 module _ (d : List ℕ) (w e : ℕ) where
-  pub claim_beyond : length d ≤ w → Claim·.Refused Beyond ≡ claimed d w e
+  pub claim_beyond : length d ≤ w → Err Beyond ≡ claimed d w e
   unfolding claimed
   claim_beyond h = rw (le-ltb w (length d) h)
 
   module _ (h : w < length d) {x : ℕ} (is : x ≡ entry d w) where
-    pub claim_none : is_end x ≡ true → Claim·.Free ≡ claimed d w e
+    pub claim_none : is_end x ≡ true → Ok tt ≡ claimed d w e
     unfolding claimed
     claim_none z = rw (lt-ltb w (length d) h, ← is, z)
 
-    pub claim_own : is_end x ≡ false → x ≡ e → Claim·.Free ≡ claimed d w e
+    pub claim_own : is_end x ≡ false → x ≡ e → Ok tt ≡ claimed d w e
     unfolding claimed
     claim_own z q = rw (lt-ltb w (length d) h, ← is, z, eq-eqb x e q)
 
-    pub claim_taken : is_end x ≡ false → (x ≡ e → ⊥) → Claim·.Refused Taken ≡ claimed d w e
+    pub claim_taken : is_end x ≡ false → (x ≡ e → ⊥) → Err Taken ≡ claimed d w e
     unfolding claimed
     claim_taken z q = rw (lt-ltb w (length d) h, ← is, z, ne_eqb x e q)
 
@@ -67,11 +66,11 @@ add_ends g a b w =
     inr (refl, record { fit = fit-says _ _ _ _ _ _ _ t; row = ltb-true _ _ l; source = ltb-true _ _ k2.0; target = ltb-true _ _ k2.1 }))))
 
 -- an edge added, by what `addable` told
-module _ (f : Filed) (a b w : ℕ) (c : Claim) (told : Adds f.net a b c) where
+module _ (f : Filed) (a b w : ℕ) (c : Result Unit Refusal) (told : Adds f.net a b c) where
   abbrev base : Out ℕ Net
   base = add_edge f.net a b w
 
-  pub not_addable : (why : Refusal) → c ≡ Claim·.Refused why → out (refused why 0) f ≡ add_edge_filed f a b w
+  pub not_addable : (why : Refusal) → c ≡ Err why → out (refused why 0) f ≡ add_edge_filed f a b w
   unfolding add_edge_filed
   not_addable why q =
       let z : refusal_no why ≡ base.answer.number = sym (ap claim_no q) ∙ told w in
@@ -81,7 +80,7 @@ module _ (f : Filed) (a b w : ℕ) (c : Claim) (told : Adds f.net a b c) where
       (λ x. absurd (not_zero why (z ∙ ap (λ (o : Out ℕ Net). o.answer.number) x.0)))
       (add_ends f.net a b w))
 
-  module _ (free : c ≡ Claim·.Free) where
+  module _ (free : c ≡ Ok tt) where
     served : (base ≡ out (done f.net.m) (linked f.net a b w)) × Room f.net a b
     served =
         let z : 0 ≡ base.answer.number = sym (ap claim_no free) ∙ told w in
@@ -90,20 +89,19 @@ module _ (f : Filed) (a b w : ℕ) (c : Claim) (told : Adds f.net a b c) where
     pub room : Room f.net a b
     room = served.1
 
-    pub number-refused : (why : Refusal) → claimed f.directory w END ≡ Claim·.Refused why → out (refused why 0) f ≡ add_edge_filed f a b w
+    pub number-refused : (why : Refusal) → claimed f.directory w END ≡ Err why → out (refused why 0) f ≡ add_edge_filed f a b w
     unfolding add_edge_filed
     number-refused why q = rw (served.0, q)
 
-    pub entered_so : (h : Net) (d : List ℕ) → claimed f.directory w END ≡ Claim·.Free
+    pub entered_so : (h : Net) (d : List ℕ) → claimed f.directory w END ≡ Ok tt
         → out (done f.net.m) h ≡ out (done f.net.m) (linked f.net a b w) → d ≡ set f.directory w f.net.m
         → out (done f.net.m) (filed h d) ≡ add_edge_filed f a b w
     unfolding add_edge_filed
     entered_so h d q p z = rw (served.0, q, z) (ap (λ (o : Out ℕ Net). out o.answer (filed o.after (set f.directory w f.net.m))) p)
 
 -- an edge reweighted, by what its claim came to
-abbrev pub granted : {A : Type 0} → A → A → Claim → Told A
-granted values zeros Claim·.Free = done values
-granted values zeros (Claim·.Refused why) = refused why zeros
+abbrev pub granted : {A : Type 0} → A → A → Result Unit Refusal → Told A
+granted values zeros = told_as (λ (u : Unit). values) zeros
 
 module _ (weights : List ℤ) (heads : List ℕ) (registers : Lent ℕ) (links ends : List ℕ) (n m : ℕ) (directory : Lent ℕ) (e w : ℕ) where
   abbrev before : Filed
@@ -115,13 +113,13 @@ module _ (weights : List ℤ) (heads : List ℕ) (registers : Lent ℕ) (links e
   abbrev reset : Net
   reset = net weights heads (set registers.old e w) links ends n m
 
-  pub reweighed_so : {A : Type 0} (zeros values : A) (o : Out A Net) (c : Claim) → out (done values) reset ≡ o → Reweighs registers directory e w c
+  pub reweighed_so : {A : Type 0} (zeros values : A) (o : Out A Net) (c : Result Unit Refusal) → out (done values) reset ≡ o → Reweighs registers directory e w c
       → out (granted values zeros c) after ≡ reweighed before zeros e w o
-  reweighed_so zeros values o Claim·.Free p q = rw (← p, ← q.answer_is, q.registers_are, q.directory_is)
-  reweighed_so zeros values o (Claim·.Refused why) p q = rw (← q.answer_is, q.registers_are, q.directory_is)
+  reweighed_so zeros values o (Ok u) p q = rw (← p, ← q.answer_is, q.registers_are, q.directory_is)
+  reweighed_so zeros values o (Err why) p q = rw (← q.answer_is, q.registers_are, q.directory_is)
 
   -- setting an edge's number, past the tests of the call without a directory
-  pub weight-told : (c : Claim) → out (done tt) reset ≡ set_edge_weight before.net e w → Reweighs registers directory e w c
+  pub weight-told : (c : Result Unit Refusal) → out (done tt) reset ≡ set_edge_weight before.net e w → Reweighs registers directory e w c
       → out (granted tt tt c) after ≡ set_edge_weight_filed before e w
   unfolding set_edge_weight_filed
   weight-told c p q =

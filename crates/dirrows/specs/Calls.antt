@@ -1,6 +1,7 @@
 -- Edges added, reweighted and cleared in a network with a directory: refused as without one; where that call is served, what stands against the number.
 use Prim.{Unit, tt}
-use Rattle.std.specs.Prelude.{ℕ, ◌||◌, List, eqb, ltb, length, set}
+use Rattle.std.specs.Prelude.{ℕ, ◌||◌, List, eqb, ltb, length, set, Result, Ok, Err}
+use Rattle.index.specs.declared.Refusal.{Refusal}
 use Rattle.index.specs.declared.Refusal.TheVariants.{Broken, Taken, Beyond}
 use Rattle.index.specs.Index.{END, is_end}
 use Rattle.tables.specs.Net.{Net}
@@ -8,20 +9,18 @@ use Rattle.tables.specs.Answers.{Out, out, refused, unless}
 use Rattle.lookups.specs.Lookups.{set_edge_weight}
 use Rattle.rows.specs.Calls.{add_edge, clear_edges, clear}
 use Rattle.directory.specs.Directory.{entry, none, row_named, Filed, filed, register_of, beside}
-use Rattle.dirrows.specs.declared.parts.Claim.{Claim}
-use Rattle.dirrows.specs.declared.parts.Claim.TheVariants as Claim·
 
 -- whether row e may have number w: 12 where w is not below the length, 11 where its entry names another row; a new row is claimed for as `END`
-unfoldable pub claimed : List ℕ → (w e : ℕ) → Claim
+unfoldable pub claimed : List ℕ → (w e : ℕ) → Result Unit Refusal
 claimed directory w e =
-    unless (ltb w (length directory)) (Claim·.Refused Beyond)
-    (unless (is_end (entry directory w) || eqb (entry directory w) e) (Claim·.Refused Taken)
-    Claim·.Free)
+    unless (ltb w (length directory)) (Err Beyond)
+    (unless (is_end (entry directory w) || eqb (entry directory w) e) (Err Taken)
+    (Ok tt))
 
 -- a claim that is refused refuses the call
-abbrev pub if_free : {A : Type 0} → Filed → A → Claim → Out A Filed → Out A Filed
-if_free f zeros Claim·.Free rest = rest
-if_free f zeros (Claim·.Refused why) rest = out (refused why zeros) f
+abbrev pub if_free : {A : Type 0} → Filed → A → Result Unit Refusal → Out A Filed → Out A Filed
+if_free f zeros (Ok u) rest = rest
+if_free f zeros (Err why) rest = out (refused why zeros) f
 
 -- a new row, which a call without a directory has told, is entered under number w: 12, 11
 abbrev pub entered : Filed → ℕ → Out ℕ Net → Out ℕ Filed
@@ -34,8 +33,8 @@ add_edge_filed f a b w =
     beside f o (entered f w o)
 
 -- whether row e may have number w in place of its own: 6 where its entry does not name it, then 12, 11
-abbrev pub reclaimed : (ℕ → ℕ) → List ℕ → (e w : ℕ) → Claim
-reclaimed number directory e w = unless (row_named number directory e) (Claim·.Refused Broken) (claimed directory w e)
+abbrev pub reclaimed : (ℕ → ℕ) → List ℕ → (e w : ℕ) → Result Unit Refusal
+reclaimed number directory e w = unless (row_named number directory e) (Err Broken) (claimed directory w e)
 
 -- its entry moves; the old one goes first, so that a row keeps its entry under a number that it has already
 abbrev pub reentered : (ℕ → ℕ) → List ℕ → (e w : ℕ) → List ℕ

@@ -9,9 +9,9 @@ ghost use Rattle.dirrows.specs.Calls.{add_edge_filed, set_edge_weight_filed, cle
 
 use directory::parts::enter;
 use index::{EdgeIndex, NodeIndex, Refusal};
-use parts::{Claim, addable, free_for, reweigh};
-use tables::parts::{fill, fits, link_edge};
-use tables::{Changed, EdgeAnswer};
+use parts::{addable, free_for, reweigh};
+use tables::Network;
+use tables::parts::{fits, link_edge};
 
 pub mod parts;
 
@@ -28,23 +28,26 @@ pub fn add_edge(
     a: NodeIndex,
     b: NodeIndex,
     w: u32,
-) -> EdgeAnswer
+) -> Result<EdgeIndex, Refusal>
     ensures { out (told_edge result) (filed (leaving weights.now heads.new registers.new links.new ends.new n m.new) directory.new)
         ≡ add_edge_filed (filed (entering weights.now heads.old registers.old links.old ends.old n m.old) directory.old) a.0 b.0 w }
 {
     let e = *m;
-    match addable(weights, heads, registers, links, ends, n, e, a, b) {
-        Claim::Refused(why) => EdgeAnswer::Refused(why),
-        Claim::Free => match free_for(directory, w, EdgeIndex::END) {
-            Claim::Refused(why) => EdgeAnswer::Refused(why),
-            Claim::Free => {
-                link_edge(heads, registers, links, ends, e, a, b, w);
-                enter(directory, w, EdgeIndex(e));
-                *m = e + 1;
-                EdgeAnswer::Edge(EdgeIndex(e))
-            }
-        },
-    }
+    let net = Network {
+        weights,
+        heads,
+        registers,
+        links,
+        ends,
+        n,
+        m: e,
+    };
+    addable(net, a, b)?;
+    free_for(directory, w, EdgeIndex::END)?;
+    link_edge(heads, registers, links, ends, e, a, b, w);
+    enter(directory, w, EdgeIndex(e));
+    *m = e + 1;
+    Ok(EdgeIndex(e))
 }
 
 // Gives edge e the register number w, and moves its entry.
@@ -59,20 +62,17 @@ pub fn set_edge_weight(
     directory: &mut [u32],
     e: EdgeIndex,
     w: u32,
-) -> Changed
+) -> Result<(), Refusal>
     ensures { out (told_change result) (filed (leaving weights.now heads.now registers.new links.now ends.now n m) directory.new)
         ≡ set_edge_weight_filed (filed (entering weights.now heads.now registers.old links.now ends.now n m) directory.old) e.0 w }
 {
     if !fits(weights, heads, registers, links, ends, n, m) {
-        return Changed::Refused(Refusal::Tables);
+        return Err(Refusal::Tables);
     }
     if m <= e.0 {
-        return Changed::Refused(Refusal::NoEdge);
+        return Err(Refusal::NoEdge);
     }
-    match reweigh(registers, directory, e, w) {
-        Claim::Refused(why) => Changed::Refused(why),
-        Claim::Free => Changed::Done,
-    }
+    reweigh(registers, directory, e, w)
 }
 
 // Takes out all edges; every entry becomes none.
@@ -85,17 +85,13 @@ pub fn clear_edges(
     n: u32,
     m: &mut u32,
     directory: &mut [u32],
-) -> Changed
+) -> Result<(), Refusal>
     ensures { out (told_change result) (filed (leaving weights.now heads.new registers.new links.new ends.new n m.new) directory.new)
         ≡ clear_edges_filed (filed (entering weights.now heads.old registers.old links.old ends.old n m.old) directory.old) }
 {
-    match rows::clear_edges(weights, heads, registers, links, ends, n, m) {
-        Changed::Refused(why) => Changed::Refused(why),
-        Changed::Done => {
-            fill(directory, EdgeIndex::END.0);
-            Changed::Done
-        }
-    }
+    rows::clear_edges(weights, heads, registers, links, ends, n, m)?;
+    directory.fill(EdgeIndex::END.0);
+    Ok(())
 }
 
 // Takes out all nodes and edges; every entry becomes none.
@@ -108,15 +104,11 @@ pub fn clear(
     n: &mut u32,
     m: &mut u32,
     directory: &mut [u32],
-) -> Changed
+) -> Result<(), Refusal>
     ensures { out (told_change result) (filed (leaving weights.new heads.new registers.new links.new ends.new n.new m.new) directory.new)
         ≡ clear_filed (filed (entering weights.old heads.old registers.old links.old ends.old n.old m.old) directory.old) }
 {
-    match rows::clear(weights, heads, registers, links, ends, n, m) {
-        Changed::Refused(why) => Changed::Refused(why),
-        Changed::Done => {
-            fill(directory, EdgeIndex::END.0);
-            Changed::Done
-        }
-    }
+    rows::clear(weights, heads, registers, links, ends, n, m)?;
+    directory.fill(EdgeIndex::END.0);
+    Ok(())
 }

@@ -1,5 +1,6 @@
 -- Refused as without a directory; where that call is served, every entry has become none.
 use Prim.{tt}
+use Rattle.std.proofs.lemmas.Result.{err_from_is_err_and}
 use Rattle.tables.specs.Net.{net}
 use Rattle.rows.specs.Calls.{clear_edges}
 use Rattle.directory.specs.Directory.{filed}
@@ -8,14 +9,15 @@ use Rattle.dirrows.specs.Calls.{clear_edges_filed}
 use Rattle.dirrows.proofs.Ways.{cleared_so}
 use Rattle.dirrows.proofs.clear_edges.Goals as goal
 
-pub returns-in-Refused : goal.returns-in-Refused
+pub returns-in_err-clear_edges : goal.returns-in_err-clear_edges
 unfolding clear_edges_filed
-returns-in-Refused c =
+returns-in_err-clear_edges c =
     let g = net c.args.weights.now c.args.heads.now c.args.registers.now c.args.links.now c.args.ends.now c.args.n c.args.m.now in
-    beside-refused (filed g c.args.directory.now) (clear_edges g) _ c.in-Refused.why tt _ c.in-Refused.ensures
+    let p = err_from_is_err_and c.from_residual.result c.from_residual.ensures.1 in
+    rw (p.1, p.2) (beside-refused (filed g c.args.directory.now) (clear_edges g) _ c.in_err-clear_edges.field-0.0 tt _ c.in_err-clear_edges.ensures)
 
-pub returns-in-Done : goal.returns-in-Done
+pub returns : goal.returns
 unfolding clear_edges_filed
-returns-in-Done c =
+returns c =
     let g = net c.args.weights.now c.args.heads.now c.args.registers.now c.args.links.now c.args.ends.now c.args.n c.args.m.now in
-    cleared_so (filed g c.args.directory.now) (clear_edges g) _ _ c.in-Done.ensures c.fill.ensures
+    cleared_so (filed g c.args.directory.now) (clear_edges g) _ _ c.in_ok-clear_edges.ensures (c.fill.ensures.after (λ y p. p))

@@ -28,16 +28,9 @@ returns-then-m-e c =
 pub reweigh-requires : goal.reweigh-requires
 reweigh-requires c = let f = fitting c.fits.ensures c.if-not-fits.false in omega arith
 
-pub returns-in-Refused : goal.returns-in-Refused
+pub returns : goal.returns
 unfolding set_edge_weight
-returns-in-Refused c =
+returns c =
     let g = net c.args.weights.now c.args.heads.now c.args.registers.now c.args.links.now c.args.ends.now c.args.n c.args.m in
     let past : out (done tt) (with_edges g (set g.registers c.args.e.0 c.args.w) g.links g.ends) ≡ set_edge_weight g c.args.e.0 c.args.w = search guards depth 9 in
-    weight-told _ _ _ _ _ _ _ _ _ _ _ past c.in-Refused.ensures
-
-pub returns-in-Free : goal.returns-in-Free
-unfolding set_edge_weight
-returns-in-Free c =
-    let g = net c.args.weights.now c.args.heads.now c.args.registers.now c.args.links.now c.args.ends.now c.args.n c.args.m in
-    let past : out (done tt) (with_edges g (set g.registers c.args.e.0 c.args.w) g.links g.ends) ≡ set_edge_weight g c.args.e.0 c.args.w = search guards depth 9 in
-    weight-told _ _ _ _ _ _ _ _ _ _ _ past c.in-Free.ensures
+    weight-told _ _ _ _ _ _ _ _ _ _ _ past c.reweigh.ensures
