@@ -10,7 +10,8 @@ use Rattle.tables.specs.Net.{Net, net, with_nodes, with_edges, with_counts, node
 use Rattle.tables.specs.Rows.{node_row, edge_row, heads_with, links_with, ends_with, with_node, with_edge, filled, vacant_nodes, vacant_edges}
 use Rattle.layout.specs.Numbers.{placed}
 use Rattle.layout.specs.Layout.{head, head_bytes, image_length, node_bytes, edge_bytes}
-use Rattle.layout.proofs.Placing.{placed-after, head-length, node-length, edge-length}
+use Rattle.layout.specs.Lengths.{node-length, edge-length}
+use Rattle.layout.proofs.Placing.{placed-after, head-length}
 use Rattle.imagerows.specs.Image.{rows_of, image_of, node_place, node_in, edge_in, each, loaded}
 use Rattle.imagerows.proofs.Turns.{rows-length}
 

@@ -15,7 +15,8 @@ use Rattle.tables.specs.Rows.{node_row, edge_row}
 use Rattle.tables.proofs.Laws.{both}
 use Rattle.layout.specs.Numbers.{le, number, number_at, Bytes}
 use Rattle.layout.specs.Layout.{mark, version, head, head_bytes, image_length, node_bytes, edge_bytes, marked, version_in, nodes_in, edges_in}
-use Rattle.layout.proofs.Placing.{head-length, node-length, edge-length}
+use Rattle.layout.specs.Lengths.{node-length, edge-length}
+use Rattle.layout.proofs.Placing.{head-length}
 use Rattle.layout.proofs.Words.{number-le, word_back, half_back, span_add}
 use Rattle.imagerows.specs.Image.{rows_of, image_of, node_place, edge_place}
 use Rattle.imagerows.proofs.Turns.{rows-length}

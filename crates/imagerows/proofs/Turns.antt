@@ -1,11 +1,12 @@
 -- One turn of a loop over rows.
-use Prim.Native.Nat.{ℕ, zero, suc, ◌+◌, ◌*◌, ◌≤◌}
+use Prim.Native.Nat.{ℕ, zero, suc, ◌+◌, ◌*◌, ◌≤◌, ◌<◌}
 use mathlib.Core.Path.{◌≡◌, refl, sym, ap, ap₂, ◌∙◌}
 use mathlib.Core.List.{List}
 use native.Mathlib.Nat.{mul-suc}
 use native.Mathlib.Numerals.{add-one}
 use native.Mathlib.Omega.{arith}
 use lib.ListN.{length, length-append}
+use Rattle.std.proofs.lemmas.Nat.{rows}
 use Rattle.layout.specs.Numbers.{placed}
 use Rattle.layout.proofs.Placing.{placed-after, placed-none}
 use Rattle.imagerows.specs.Image.{rows_of, each}
@@ -24,6 +25,9 @@ module _ (f : ℕ → List ℕ) (k : ℕ) (len : (a : ℕ) → length (f a) ≡ 
   row_written at a place l e h p q r =
       rw (add-one a)
       (placed-after at place (rows_of f a) (f a) l (omega (arith, rows-length a)) (omega (arith, len a)) p (rw q at r))
+
+pub row_within : (k a n : ℕ) → a < n → k * a + k ≤ k * n
+row_within k a n h = grind (arith, rows)
 
 pub none_written : (f : ℕ → List ℕ) (at : ℕ) (l : List ℕ) → l ≡ placed at (rows_of f 0) l
 unfolding rows_of

@@ -1,17 +1,34 @@
--- What the parts ask of their callers, and what they leave in the columns lent to them.
-use Rattle.std.specs.Prelude.{ℕ, ◌*◌, ◌≤◌, ◌≡◌, List, [], ℤ, set}
+-- What the parts ask of their callers.
+use Rattle.std.specs.Prelude.{ℕ, ◌*◌, ◌≤◌, ◌≡◌, length}
+use Rattle.std.proofs.Math.ListN.{length-set}
 use Rattle.tables.specs.declared.row.Node.{Node}
 use Rattle.tables.specs.declared.row.Edge.{Edge}
-use Rattle.tables.specs.Net.{Lent, net, node_cells, edge_cells}
-use Rattle.tables.specs.Rows.{node_row, edge_row, heads_with, links_with, ends_with}
-use Rattle.imagerows.specs.Image.{node_place, edge_place, node_in, edge_in, each}
+use Rattle.tables.specs.Net.{Net, node_cells, edge_cells}
+use Rattle.tables.specs.Parts.{NodeRow, EdgeRow}
+use Rattle.tables.specs.Rows.{with_node, with_edge}
+use Rattle.imagerows.specs.Image.{node_place, edge_place}
 
--- a row of the node columns, of the edge columns
-abbrev pub node_of : List ℤ → List ℕ → ℕ → Node
-node_of weights heads a = node_row (net weights heads [] [] [] 0 0) a
+-- the columns have a row of that number
+abbrev pub HasNode : Net → ℕ → Type 0
+HasNode g a = NodeRow (length g.weights) (length g.heads) a
 
-abbrev pub edge_of : List ℕ → List ℕ → List ℕ → ℕ → Edge
-edge_of registers links ends e = edge_row (net [] [] registers links ends 0 0) e
+abbrev pub HasEdge : Net → ℕ → Type 0
+HasEdge g e = EdgeRow (length g.registers) (length g.links) (length g.ends) e
+
+-- also once one is written
+pub node_has_still : (g : Net) (a k : ℕ) (row : Node) → HasNode g k → HasNode (with_node g a row) k
+unfolding with_node
+node_has_still g a k row h =
+    record { weights_hold = simp length-set h.weights_hold; heads_hold = simp length-set h.heads_hold }
+
+pub edge_has_still : (g : Net) (e k : ℕ) (row : Edge) → HasEdge g k → HasEdge (with_edge g e row) k
+unfolding with_edge
+edge_has_still g e k row h =
+    record {
+      registers_hold = simp length-set h.registers_hold;
+      links_hold = simp length-set h.links_hold;
+      ends_hold = simp length-set h.ends_hold;
+    }
 
 -- the columns hold n nodes, and the bytes their rows
 pub record NodesHeld (weights heads bytes n : ℕ) : Type 0 where
@@ -37,13 +54,3 @@ pub record ImageHeld (weights heads registers links ends bytes n m : ℕ) : Type
   pub agree : RowsAgree weights heads registers links ends
   pub nodes : NodesHeld weights heads bytes n
   pub edges : EdgesHeld registers links ends bytes n m
-
--- what the part that stores an image's node rows leaves in the columns, and that for its edge rows
-pub record StoresNodes (weights : Lent ℤ) (heads : Lent ℕ) (bytes : List ℕ) (n : ℕ) : Type 0 where
-  pub weights_are : weights.new ≡ each (λ l a. set l a (node_in bytes a).weight) n weights.old
-  pub heads_are : heads.new ≡ each (λ l a. heads_with l a (node_in bytes a)) n heads.old
-
-pub record StoresEdges (registers links ends : Lent ℕ) (bytes : List ℕ) (n m : ℕ) : Type 0 where
-  pub registers_are : registers.new ≡ each (λ l e. set l e (edge_in bytes n e).weight) m registers.old
-  pub links_are : links.new ≡ each (λ l e. links_with l e (edge_in bytes n e)) m links.old
-  pub ends_are : ends.new ≡ each (λ l e. ends_with l e (edge_in bytes n e)) m ends.old
