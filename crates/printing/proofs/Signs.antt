@@ -7,7 +7,7 @@ use native.Mathlib.Omega.{arith}
 use borrow.Author.Tests.{ltb-true, le-leb}
 use lib.IntN.{ℤ, pos, negsuc, neg_ℤ, ◌+ℤ◌, ◌-ℤ◌, +ℤ_idl, neg_ℤ-neg_ℤ, nat_abs}
 use lib.Signed.{mag, lt_z}
-use mir.Syntax.{w32, w64}
+use mir.Syntax.{w64}
 use mir.Val.{to_z, of_z, SFits}
 use mir.Facts.{to_z-of_z}
 use Rattle.printing.specs.Bytes.{minus}
@@ -59,19 +59,18 @@ module _ (z : ℤ) (f : SFits w64 z) {n : ℕ} (e : n ≡ nat_abs (to_z w64 (of_
   signed-not_negative h = let q = not_negative z f h in rw (e, to_z-of_z f, q.1)
 
 -- `0 - v` for what a `-` stands before
-module _ (v : ℕ) (h : v ≤ 2147483648) where
+module _ (v : ℕ) (h : v < 9223372036854775808) where
   pub opposite : pos 0 -ℤ to_z w64 v ≡ neg_ℤ (pos v)
   opposite = let e : to_z w64 v ≡ pos v = back (pos v) (omega arith) in rw e (+ℤ_idl (neg_ℤ (pos v)))
 
   pub opposite_back : to_z w64 (of_z w64 (pos 0 -ℤ to_z w64 v)) ≡ neg_ℤ (pos v)
   opposite_back = rw opposite (back (neg_ℤ (pos v)) (omega (arith, mag_opposite v)))
 
-  pub opposite_fits : mag (neg_ℤ (pos v)) < 2147483648
-  opposite_fits = strictly v h
-    where
-      strictly : (v : ℕ) → v ≤ 2147483648 → mag (neg_ℤ (pos v)) < 2147483648
-      strictly zero h = omega arith
-      strictly (suc v) h = omega arith
+-- it is a number of 32 bits just where v is at most 2147483648
+pub opposite_fits : (v : ℕ) → v ≤ 2147483648 → mag (neg_ℤ (pos v)) < 2147483648
+opposite_fits zero h = omega arith
+opposite_fits (suc v) h = omega arith
 
-pub back32 : (z : ℤ) → mag z < 2147483648 → to_z w32 (of_z w32 z) ≡ z
-back32 z h = to_z-of_z {w = w32} {z = z} (record { sfits = h })
+pub opposite_over : (v : ℕ) → 2147483648 < v → 2147483648 ≤ mag (neg_ℤ (pos v))
+opposite_over zero h = omega arith
+opposite_over (suc v) h = omega arith

@@ -7,6 +7,11 @@ use native.Mathlib.Numerals.{add-one}
 use native.Mathlib.Decide.{ℕ_discrete}
 use native.Mathlib.Omega.{arith}
 use borrow.Author.Tests.{eq-eqb, ne_eqb}
+use mathlib.Core.Bool.{cond}
+use lib.Dec.{eqb}
+use Rattle.std.specs.List.{position_or_len}
+use Rattle.std.proofs.lemmas.List.Recursion.{is_position_or_len}
+use Rattle.std.proofs.lemmas.List.{length-take}
 use lib.ListN.{length, get_or, take, drop, drop_of_length-le}
 use lib.Seq.{slice, drop-cons, take-add, drop_at, drop-drop, length-take-le}
 use Rattle.printing.specs.Bytes.{newline}
@@ -83,3 +88,17 @@ lines_at {script} {at} {end} h e =
 pub lines_end : (script : List ℕ) (at : ℕ) → length script ≤ at → lines (drop at script) ≡ []
 unfolding lines
 lines_end script at h = rw (drop_of_length-le script {i = at} h)
+
+-- a search for the mark finds where the text before it ends
+pub before_len_is : (mark : ℕ) (text : List ℕ) → length (before mark text) ≡ position_or_len (λ b. eqb b mark) text
+before_len_is mark = is_position_or_len (λ text. length (before mark text)) (λ b. eqb b mark) (ap length (before-none mark)) (next mark)
+  where
+    next : (mark b : ℕ) (bs : List ℕ) → length (before mark (b ∷ bs)) ≡ cond (eqb b mark) 0 (1 + length (before mark bs))
+    next mark b bs =
+        elim (ℕ_discrete b mark) [
+          | yes q ↦ rw (before-mark mark b bs q, eq-eqb b mark q)
+          | no q ↦ rw (before-other mark b bs q, ne_eqb b mark q) (omega arith)
+        ]
+
+pub before_short : (mark : ℕ) (text : List ℕ) → length (before mark text) ≤ length text
+before_short mark text = omega (arith, ap length (before-taken mark text), length-take {A = ℕ})

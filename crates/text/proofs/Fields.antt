@@ -1,24 +1,24 @@
 -- From the digits read to what they spell: a number, a whole field, a node weight.
-use Prim.Native.Nat.{ℕ, ◌+◌, ◌≤◌, ◌<◌}
+use Prim.Native.Nat.{ℕ, ◌+◌, ◌-◌, ◌≤◌, ◌<◌}
 use mathlib.Core.Path.{◌≡◌, refl, sym, ap, ◌∙◌}
 use mathlib.Core.Bool.{Bool, true, false}
 use mathlib.Core.List.{List, [], ◌∷◌}
 use mathlib.Core.Option.{Option, none, some}
+use Rattle.std.specs.Prelude.{Some, None}
+use Rattle.std.specs.declared.option.Option as Std·
+use Rattle.std.proofs.lemmas.Option.{some_pair_parts}
 use native.Mathlib.Numerals.{add-one}
 use native.Mathlib.Omega.{arith}
 use borrow.Author.Tests.{lt-ltb, le-ltb, eq-eqb, ne_eqb}
 use lib.IntN.{pos, neg_ℤ}
-use lib.ListN.{length, get_or}
+use lib.ListN.{length, get_or, take, drop}
+use Rattle.text.proofs.Cutting.{slice_taken}
 use lib.Seq.{slice, slice_empty, slice-cons, length-slice}
-use Rattle.text.specs.declared.parts.Digits.{Digits}
-use Rattle.text.specs.declared.parts.Digits.TheVariants as Digits·
-use Rattle.text.specs.declared.Number.TheVariants as Number·
-use Rattle.text.specs.declared.Weight.TheVariants as Weight·
 use Rattle.printing.specs.Bytes.{minus}
 use Rattle.text.specs.Bytes.{is_digit}
 use Rattle.text.specs.Numbers.{are_digits, magnitude, weight}
 use Rattle.text.specs.Parts.{Within, run, spelled_to, read_digits, read_whole, read_number, weight_of}
-use Rattle.text.proofs.Runs.{and_l, and_r, run_digit, run-stops, run-empty, no_digits}
+use Rattle.text.proofs.Runs.{and_l, and_r, run_digit, run-stops, run-empty, no_digits, magnitude_small}
 
 -- what a script has from `at` up to `end`, by its first byte
 module _ {script : List ℕ} {at end : ℕ} (w : Within script at end) where
@@ -28,17 +28,22 @@ module _ {script : List ℕ} {at end : ℕ} (w : Within script at end) where
   pub first_there : (at ≡ end → ⊥) → slice at end script ≡ get_or script at 0 ∷ slice (at + 1) end script
   first_there n = rw (add-one at) (slice-cons at end script 0 (omega (arith, w.ordered)) w.held)
 
+  pub text_is : take (end - at) (drop at script) ≡ slice at end script
+  text_is =
+      let e : at + (end - at) ≡ end = omega (arith, w.ordered) in
+      sym (slice_taken script at (end - at) (omega (arith, w.ordered, w.held))) ∙ ap (λ n. slice at n script) e
+
   pub many_there : at + length (slice at end script) ≡ end
   many_there = omega (arith, w.ordered, length-slice at end script w.held)
 
--- what `Bad` or a value tells of the digits
-spelled_none : (end : ℕ) (o : Option ℕ) → Digits·.Bad ≡ spelled_to end o → o ≡ none
+-- what `None` or a value tells of the digits
+pub spelled_none : (end : ℕ) (o : Option ℕ) → None ≡ spelled_to end o → o ≡ none
 spelled_none end none h = refl
 spelled_none end (some x) h = absurd (let z : ◌≡◌ {A = ℕ} 0 1 = cc in omega arith)
 
-spelled_some : (end : ℕ) (o : Option ℕ) {v s : ℕ} → Digits·.Value v s ≡ spelled_to end o → (o ≡ some v) × (s ≡ end)
+pub spelled_some : (end : ℕ) (o : Option ℕ) {v s : ℕ} → Some (v, s) ≡ spelled_to end o → (o ≡ some v) × (s ≡ end)
 spelled_some end none h = absurd (let z : ◌≡◌ {A = ℕ} 0 1 = cc in omega arith)
-spelled_some end (some x) {v} h = let e : x ≡ v = cc in (ap some e, cc)
+spelled_some end (some x) {v} {s} h = let e = some_pair_parts v x s end h in (ap some (sym e.0), e.1)
 
 -- a text all of digits is its own run
 run-all : (text : List ℕ) → are_digits text ≡ true → run text ≡ text
@@ -68,67 +73,70 @@ part_none text n = go (are_digits text) refl
     go true d = absurd (n (ap length (run-all text d)))
     go false d = no_digits text d
 
-module _ (at : ℕ) (text : List ℕ) {r : Digits} (e : r ≡ read_digits at text) where
-  run_none : r ≡ Digits·.Bad → magnitude (run text) ≡ none
+module _ (at : ℕ) (text : List ℕ) {r : Std·.Option (ℕ × ℕ)} (e : r ≡ read_digits at text) where
+  run_none : r ≡ None → magnitude (run text) ≡ none
   unfolding read_digits
   run_none h = spelled_none (at + length (run text)) (magnitude (run text)) (sym h ∙ e)
 
-  run-some : {v s : ℕ} → r ≡ Digits·.Value v s → (magnitude (run text) ≡ some v) × (s ≡ at + length (run text))
+  run-some : {v s : ℕ} → r ≡ Some (v, s) → (magnitude (run text) ≡ some v) × (s ≡ at + length (run text))
   unfolding read_digits
   run-some h = spelled_some (at + length (run text)) (magnitude (run text)) (sym h ∙ e)
 
-  pub number_bad : r ≡ Digits·.Bad → Number·.Bad ≡ read_number at text
+  pub number_bad : r ≡ None → None ≡ read_number at text
   unfolding read_number
   number_bad h = rw (run_none h)
 
-  pub number_over : {v s : ℕ} → r ≡ Digits·.Value v s → 4294967295 < v → Number·.Bad ≡ read_number at text
+  pub number_over : {v s : ℕ} → r ≡ Some (v, s) → 4294967295 < v → None ≡ read_number at text
   unfolding read_number
   number_over {v} h o = rw ((run-some h).0, le-ltb v 4294967296 (omega arith))
 
-  pub number_fits : {v s : ℕ} → r ≡ Digits·.Value v s → v ≤ 4294967295 → Number·.Value v s ≡ read_number at text
+  pub number_fits : {v s : ℕ} → r ≡ Some (v, s) → v ≤ 4294967295 → Some (v, s) ≡ read_number at text
   unfolding read_number
   number_fits {v} h o = let q = run-some h in rw (q.0, lt-ltb v 4294967296 (omega arith), q.1)
 
-  pub whole_bad : (end : ℕ) → r ≡ Digits·.Bad → Digits·.Bad ≡ read_whole end text
+  pub whole_bad : (end : ℕ) → r ≡ None → None ≡ read_whole end text
   unfolding read_whole
   whole_bad end h = rw (whole_none text (run_none h))
 
-  module _ {v s end : ℕ} (h : r ≡ Digits·.Value v s) (l : at + length text ≡ end) where
-    pub whole_part : (s ≡ end → ⊥) → Digits·.Bad ≡ read_whole end text
+  module _ {v s end : ℕ} (h : r ≡ Some (v, s)) (l : at + length text ≡ end) where
+    pub whole_part : (s ≡ end → ⊥) → None ≡ read_whole end text
     unfolding read_whole
     whole_part n = let q = run-some h in rw (part_none text (λ k. n (omega arith)))
 
-    pub whole_all : s ≡ end → Digits·.Value v end ≡ read_whole end text
+    pub whole_all : s ≡ end → Some (v, end) ≡ read_whole end text
     unfolding read_whole
     whole_all k = let q = run-some h in rw (ap magnitude (sym (run-whole text (omega arith))) ∙ q.0)
 
 -- a node weight, by its sign
-module _ (end : ℕ) (text : List ℕ) {r : Digits} (e : r ≡ read_whole end text) where
-  field-none : r ≡ Digits·.Bad → magnitude text ≡ none
+module _ (end : ℕ) (text : List ℕ) {r : Std·.Option (ℕ × ℕ)} (e : r ≡ read_whole end text) where
+  field-none : r ≡ None → magnitude text ≡ none
   unfolding read_whole
   field-none h = spelled_none end (magnitude text) (sym h ∙ e)
 
-  field-some : {v s : ℕ} → r ≡ Digits·.Value v s → magnitude text ≡ some v
+  field-some : {v s : ℕ} → r ≡ Some (v, s) → magnitude text ≡ some v
   unfolding read_whole
   field-some h = (spelled_some end (magnitude text) (sym h ∙ e)).0
 
-module _ (end b : ℕ) (bs : List ℕ) {r : Digits} where
+  pub whole_small : {v s : ℕ} → r ≡ Some (v, s) → v < 10000000000
+  whole_small h = magnitude_small text (field-some h)
+
+module _ (end b : ℕ) (bs : List ℕ) {r : Std·.Option (ℕ × ℕ)} where
   module _ (m : b ≡ minus) (e : r ≡ read_whole end bs) where
-    pub negative_bad : r ≡ Digits·.Bad → Weight·.Bad ≡ weight_of (weight (b ∷ bs))
+    pub negative_bad : r ≡ None → None ≡ weight_of (weight (b ∷ bs))
     negative_bad h = rw (eq-eqb b minus m, field-none end bs e h)
 
-    pub negative_over : {v s : ℕ} → r ≡ Digits·.Value v s → 2147483648 < v → Weight·.Bad ≡ weight_of (weight (b ∷ bs))
+    pub negative_over : {v s : ℕ} → r ≡ Some (v, s) → 2147483648 < v → None ≡ weight_of (weight (b ∷ bs))
     negative_over {v} h o = rw (eq-eqb b minus m, field-some end bs e h, le-ltb v 2147483649 (omega arith))
 
-    pub negative_fits : {v s : ℕ} → r ≡ Digits·.Value v s → v ≤ 2147483648 → Weight·.Value (neg_ℤ (pos v)) ≡ weight_of (weight (b ∷ bs))
+    pub negative_fits : {v s : ℕ} → r ≡ Some (v, s) → v ≤ 2147483648 → Some (neg_ℤ (pos v)) ≡ weight_of (weight (b ∷ bs))
     negative_fits {v} h o = rw (eq-eqb b minus m, field-some end bs e h, lt-ltb v 2147483649 (omega arith))
 
   module _ (m : b ≡ minus → ⊥) (e : r ≡ read_whole end (b ∷ bs)) where
-    pub plain_bad : r ≡ Digits·.Bad → Weight·.Bad ≡ weight_of (weight (b ∷ bs))
+    pub plain_bad : r ≡ None → None ≡ weight_of (weight (b ∷ bs))
     plain_bad h = rw (ne_eqb b minus m, field-none end (b ∷ bs) e h)
 
-    pub plain_over : {v s : ℕ} → r ≡ Digits·.Value v s → 2147483647 < v → Weight·.Bad ≡ weight_of (weight (b ∷ bs))
+    pub plain_over : {v s : ℕ} → r ≡ Some (v, s) → 2147483647 < v → None ≡ weight_of (weight (b ∷ bs))
     plain_over {v} h o = rw (ne_eqb b minus m, field-some end (b ∷ bs) e h, le-ltb v 2147483648 (omega arith))
 
-    pub plain_fits : {v s : ℕ} → r ≡ Digits·.Value v s → v ≤ 2147483647 → Weight·.Value (pos v) ≡ weight_of (weight (b ∷ bs))
+    pub plain_fits : {v s : ℕ} → r ≡ Some (v, s) → v ≤ 2147483647 → Some (pos v) ≡ weight_of (weight (b ∷ bs))
     plain_fits {v} h o = rw (ne_eqb b minus m, field-some end (b ∷ bs) e h, lt-ltb v 2147483648 (omega arith))

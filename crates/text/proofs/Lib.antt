@@ -4,3 +4,4 @@ pub mod Cutting
 pub mod Scanning
 pub mod Values
 pub mod Cases
+pub mod Turned

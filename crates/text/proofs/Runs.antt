@@ -1,20 +1,27 @@
 -- The digits that a text begins with, read one by one.
-use Prim.Native.Nat.{ℕ, suc, ◌+◌, ◌*◌, ◌-◌, ◌^◌, ◌≤◌, ◌<◌}
-use mathlib.Core.Path.{◌≡◌, refl, sym, ap, ap₂, ◌∙◌}
-use mathlib.Core.Bool.{Bool, true, false, cond, ◌&&◌}
-use mathlib.Core.List.{List, [], ◌∷◌, ◌++◌, append_assoc, append-nil}
+use Prim.Native.Nat.{ℕ, zero, suc, ◌+◌, ◌*◌, ◌-◌, ◌^◌, ◌≤◌, ◌<◌}
+use mathlib.Core.Path.{◌≡◌, refl, sym, ap, subst, ◌∙◌}
+use mathlib.Core.Bool.{Bool, true, false, cond, not, ◌&&◌}
+use mathlib.Core.Logic.{◌⊎◌, ⊎_elim}
+use mathlib.Core.List.{List, [], ◌∷◌, ◌++◌}
 use mathlib.Core.Option.{none, some}
 use native.Mathlib.Nat.{pow-suc, pow-le-pow_right}
 use native.Mathlib.Numerals.{add-one}
 use native.Mathlib.Omega.{arith}
-use borrow.Author.Tests.{le-leb, lt-leb, leb-true}
-use lib.Dec.{leb}
-use lib.ListN.{length, get_or, take, length-append, drop_of_length-le}
-use lib.Seq.{slice, slice-cons, length-take-le}
-use Rattle.text.specs.declared.parts.Digits.TheVariants as Digits·
+use native.Mathlib.Decide.{dec_lt}
+use borrow.Author.Tests.{le-leb, lt-leb, leb-true, lt-ltb, le-ltb}
+use lib.Dec.{leb, ltb}
+use Rattle.std.specs.Prelude.{Some, None}
+use Rattle.std.specs.Option.{unwrap_or}
+use Rattle.std.specs.declared.option.Option as Std·
+use Rattle.std.specs.List.{position_or_len}
+use Rattle.std.proofs.lemmas.List.Recursion.{is_position_or_len}
+use Rattle.std.proofs.lemmas.List.{take_more}
+use lib.ListN.{length, get_or, take}
+use lib.Seq.{take-length}
 use Rattle.text.specs.Bytes.{is_digit}
 use Rattle.text.specs.Numbers.{are_digits, value_on, magnitude}
-use Rattle.text.specs.Parts.{Within, run, read_digits}
+use Rattle.text.specs.Parts.{run, read_digits}
 
 pub and_true : {a b : Bool} → a ≡ true → b ≡ true → a && b ≡ true
 and_true p q = rw (p, q)
@@ -91,74 +98,84 @@ pub no_length : {A : Type 0} (xs : List A) → length xs ≡ 0 → xs ≡ []
 no_length [] h = refl
 no_length (x ∷ xs) h = absurd (omega arith)
 
--- a loop that has read the digits `met` from `at` on and stands at i
-pub record Reading (script : List ℕ) (at end value i : ℕ) (met : List ℕ) : Type 0 where
-  pub many : at + length met ≡ i
-  pub within : i ≤ end
-  pub few : length met ≤ 10
-  pub worth : value_on 0 met ≡ value
-  pub small : value < 10 ^ length met
-  pub begins : run (slice at end script) ≡ met ++ run (slice i end script)
+-- the run ends at the first byte that is no digit
+pub run_len_is : (text : List ℕ) → length (run text) ≡ position_or_len (λ b. not (is_digit b)) text
+run_len_is = is_position_or_len (λ text. length (run text)) (λ b. not (is_digit b)) (ap length run-empty) (λ b bs. next b bs (is_digit b) refl)
+  where
+    next : (b : ℕ) (bs : List ℕ) (t : Bool) → is_digit b ≡ t → length (run (b ∷ bs)) ≡ cond (not (is_digit b)) 0 (1 + length (run bs))
+    next b bs true h = rw h (ap length (run_digit b bs h) ∙ omega arith)
+    next b bs false h = rw h (ap length (run-stops b bs h))
 
-pub start : {script : List ℕ} {at end : ℕ} → Within script at end → Reading script at end 0 at []
-start w = record { many = omega arith; within = w.ordered; few = omega arith; worth = refl; small = omega arith; begins = refl }
+-- a search that finds nothing stops at the end of the text
+pub stops_at : {o : Std·.Option ℕ} {r m p n : ℕ} → r ≡ unwrap_or o n → o ≡ cond (ltb p n) (Some p) None → m ≡ p → m ≤ n → r ≡ m
+stops_at {o} {r} {m} {p} {n} e f q h =
+    elim (dec_lt p n) [
+      | yes t ↦ let s : o ≡ Some p = rw (lt-ltb p n t) at f in (rw s at e) ∙ sym q
+      | no t ↦ let s : o ≡ None = rw (le-ltb p n (omega arith)) at f in (rw s at e) ∙ omega arith
+    ]
 
-module _ {script : List ℕ} {at end value i : ℕ} {met : List ℕ} (w : Within script at end) (r : Reading script at end value i met) where
-  pub below : length met ≤ 9 → value < 1000000000
-  below h = omega (arith, r.small, pow-le-pow_right {n = 10} (omega arith) {i = length met} {j = 9} h)
+-- a loop over digits, k of them met
+pub digit_at : (digits : List ℕ) (k : ℕ) → are_digits digits ≡ true → k < length digits → is_digit (get_or digits k 0) ≡ true
+digit_at [] k d h = absurd (omega arith)
+digit_at (b ∷ bs) zero d h = and_l (is_digit b) (are_digits bs) d
+digit_at (b ∷ bs) (suc k) d h = digit_at bs k (and_r (is_digit b) (are_digits bs) d) (omega arith)
 
-  module _ (h : i < end) where
-    next : slice i end script ≡ get_or script i 0 ∷ slice (i + 1) end script
-    next = rw (add-one i) (slice-cons i end script 0 h w.held)
+pub value_more : (digits : List ℕ) (k : ℕ) → k < length digits
+    → value_on 0 (take (k + 1) digits) ≡ value_on 0 (take k digits) * 10 + (get_or digits k 0 - 48)
+value_more digits k h = ap (value_on 0) (take_more digits k 0 h) ∙ value_last 0 (take k digits) (get_or digits k 0)
 
-    -- one digit more
-    pub more : is_digit (get_or script i 0) ≡ true → {d : ℕ} → d ≡ get_or script i 0 - 48 → length met ≤ 9
-        → Reading script at end (value * 10 + d) (i + 1) (met ++ (get_or script i 0 ∷ []))
-    more t {d} e u =
-        let b : ℕ = get_or script i 0 in
-        let l : length (met ++ (b ∷ [])) ≡ length met + 1 = length-append met (b ∷ []) in
-        let n = digit_range b t in
-        record {
-          many = omega (arith, l, r.many);
-          within = omega arith;
-          few = omega (arith, l);
-          worth = value_last 0 met b ∙ ap₂ (λ v x. v * 10 + x) r.worth (sym e);
-          small = rw (l, add-one (length met), pow-suc 10 (length met)) (omega (arith, r.small, n.0, n.1));
-          begins =
-              r.begins ∙ ap (λ s. met ++ run s) next ∙ ap (λ s. met ++ s) (run_digit b (slice (i + 1) end script) t)
-              ∙ sym (append_assoc met (b ∷ []) (run (slice (i + 1) end script)));
-        }
+pub value_small : (digits : List ℕ) → are_digits digits ≡ true → (k : ℕ) → k ≤ length digits → value_on 0 (take k digits) < 10 ^ k
+value_small digits d zero h = omega arith
+value_small digits d (suc k) h =
+    let n = digit_range (get_or digits k 0) (digit_at digits k d (omega arith)) in
+    let more : value_on 0 (take (suc k) digits) ≡ value_on 0 (take k digits) * 10 + (get_or digits k 0 - 48) =
+    rw (← add-one k) (value_more digits k (omega arith)) in
+    omega (arith, more, value_small digits d k (omega arith), pow-suc 10 k)
 
-    pub grown : is_digit (get_or script i 0) ≡ true → {d : ℕ} → d ≡ get_or script i 0 - 48 → length met ≤ 9 → value * 10 + d < 10000000000
-    grown t e u = let n = digit_range (get_or script i 0) t in omega (arith, below u)
+-- at most ten digits have a value below 10 ^ 10
+pub value_below : (digits : List ℕ) → are_digits digits ≡ true → (k : ℕ) → k ≤ length digits → k ≤ 9 → value_on 0 (take k digits) < 1000000000
+value_below digits d k h u = omega (arith, value_small digits d k h, pow-le-pow_right {n = 10} (omega arith) {i = k} {j = 9} u)
 
-    pub no_more : is_digit (get_or script i 0) ≡ false → run (slice i end script) ≡ []
-    no_more t = rw (next, run-stops (get_or script i 0) (slice (i + 1) end script) t)
+pub run_front : (text : List ℕ) → take (length (run text)) text ≡ run text
+run_front [] = rw run-empty
+run_front (b ∷ bs) = go (is_digit b) refl (run_front bs)
+  where
+    go : (t : Bool) → is_digit b ≡ t → take (length (run bs)) bs ≡ run bs → take (length (run (b ∷ bs))) (b ∷ bs) ≡ run (b ∷ bs)
+    go true h e = rw (run_digit b bs h) (ap (λ s. b ∷ s) e)
+    go false h e = rw (run-stops b bs h)
 
-    -- the eleventh digit
-    pub eleventh : is_digit (get_or script i 0) ≡ true → length met ≡ 10 → Digits·.Bad ≡ read_digits at (slice at end script)
-    unfolding read_digits
-    eleventh t n =
-        let b : ℕ = get_or script i 0 in
-        let e : run (slice at end script) ≡ met ++ (b ∷ run (slice (i + 1) end script)) =
-        r.begins ∙ ap (λ s. met ++ run s) next ∙ ap (λ s. met ++ s) (run_digit b (slice (i + 1) end script) t) in
-        let l = ap length e ∙ length-append met (b ∷ run (slice (i + 1) end script)) in
-        rw (too_many (run (slice at end script)) (omega (arith, l)))
+-- so many digits stand at the front of a text
+module _ (at : ℕ) (text : List ℕ) {len : ℕ} (e : len ≡ length (run text)) where
+  pub front_is : take len text ≡ run text
+  front_is = rw e (run_front text)
 
-  pub at_end : end ≤ i → run (slice i end script) ≡ []
-  at_end h = ap run (drop_of_length-le (take end script) {i = i} (rw (length-take-le end script w.held) h)) ∙ run-empty
+  pub front_digits : are_digits (take len text) ≡ true
+  front_digits = rw front_is (run-digits text)
 
-  -- the last digit
-  module _ (stops : run (slice i end script) ≡ []) where
-    all_met : run (slice at end script) ≡ met
-    all_met = r.begins ∙ ap (λ s. met ++ s) stops ∙ append-nil met
+  pub front_long : length (take len text) ≡ len
+  front_long = rw front_is (sym e)
 
-    pub nothing_read : i ≡ at → Digits·.Bad ≡ read_digits at (slice at end script)
-    unfolding read_digits
-    nothing_read e = rw (all_met, no_length met (omega (arith, r.many)), none_at_all)
+  pub none_or_many : (len ≡ 0) ⊎ ((len ≡ 0 → ⊥) × (10 < len)) → None ≡ read_digits at text
+  unfolding read_digits
+  none_or_many =
+      ⊎_elim
+      (λ z. rw (no_length (run text) (omega (arith, e)), none_at_all))
+      (λ m. rw (too_many (run text) (omega (arith, e, m.1))))
 
-    pub all_read : (i ≡ at → ⊥) → Digits·.Value value i ≡ read_digits at (slice at end script)
-    unfolding read_digits
-    all_read n =
-        let d : are_digits met ≡ true = rw all_met at (run-digits (slice at end script)) in
-        rw (all_met, magnitude-is met d (omega (arith, r.many)) r.few, r.worth, r.many)
+  pub all_read : {value : ℕ} → (len ≡ 0 → ⊥) → len ≤ 10 → value ≡ value_on 0 (take len text) → Some (value, at + len) ≡ read_digits at text
+  unfolding read_digits
+  all_read n m v = rw (magnitude-is (run text) (run-digits text) (omega (arith, e)) (omega (arith, e)), v, front_is, e)
+
+-- ten digits at most have a value that 64 bits hold
+pub magnitude_small : (text : List ℕ) {v : ℕ} → magnitude text ≡ some v → v < 10000000000
+unfolding magnitude
+magnitude_small text {v} e = go (are_digits text && leb 1 (length text) && leb (length text) 10) refl e
+  where
+    go : (t : Bool) → are_digits text && leb 1 (length text) && leb (length text) 10 ≡ t → cond t (some (value_on 0 text)) none ≡ some v → v < 10000000000
+    go true h e =
+        let few = leb-true (length text) 10 (and_r (are_digits text && leb 1 (length text)) (leb (length text) 10) h) in
+        let d = and_l (are_digits text) (leb 1 (length text)) (and_l (are_digits text && leb 1 (length text)) (leb (length text) 10) h) in
+        let small : value_on 0 text < 10 ^ length text = subst (λ (s : List ℕ). value_on 0 s < 10 ^ length text) (take-length text) (value_small text d (length text) (omega arith)) in
+        let same : value_on 0 text ≡ v = cc in
+        omega (arith, same, small, pow-le-pow_right {n = 10} (omega arith) {i = length text} {j = 10} few)
+    go false h e = absurd (let z : ◌≡◌ {A = ℕ} 0 1 = cc in omega arith)

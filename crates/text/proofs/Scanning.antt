@@ -4,6 +4,7 @@ use mathlib.Core.Path.{◌≡◌, refl, sym, ap, ◌∙◌}
 use mathlib.Core.Bool.{Bool, true, false, cond}
 use mathlib.Core.List.{List, [], ◌∷◌, ◌++◌, append_assoc}
 use mathlib.Core.Option.{Option, none, some}
+use Rattle.std.specs.Prelude.{Some, None}
 use native.Mathlib.Nat.{sub-zero}
 use native.Mathlib.Numerals.{add-one}
 use native.Mathlib.Decide.{ℕ_discrete}
@@ -12,14 +13,12 @@ use borrow.Author.Tests.{eq-eqb, ne_eqb}
 use lib.Dec.{eqb, eqb-zero-suc, eqb-suc-zero, eqb-suc-suc}
 use lib.ListN.{length, set, take, drop, length-set}
 use lib.Seq.{slice, sets, set_out, drop-drop}
-use Rattle.text.specs.declared.Operands.TheVariants as Operands·
-use Rattle.text.specs.declared.Number.TheVariants as Number·
 use Rattle.printing.specs.Bytes.{space}
 use Rattle.text.specs.Bytes.{is_digit, before}
 use Rattle.text.specs.Numbers.{are_digits, number, both, numbers, fields, operands}
-use Rattle.text.specs.Parts.{Within, run, number_to, read_number, read_field, three_of}
+use Rattle.text.specs.Parts.{Within, run, read_number, read_field, three_of}
 use Rattle.text.proofs.Runs.{and_false, run_digit, run-stops, run-empty, run_short, no_digits}
-use Rattle.text.proofs.Fields.{nothing_there, first_there, many_there}
+use Rattle.text.proofs.Fields.{nothing_there, first_there, many_there, spelled_none, spelled_some}
 use Rattle.text.proofs.Cutting.{before-mark, before-other, before-none}
 
 -- `count` times a space and the digits behind it, and nothing else
@@ -120,33 +119,25 @@ stored_one ns k x none = refl
 stored_one ns k x (some xs) = rw (add-one k)
 
 -- what a field that was read says of the scan
-number-none : (end : ℕ) (o : Option ℕ) → Number·.Bad ≡ number_to end o → o ≡ none
-number-none end none h = refl
-number-none end (some x) h = absurd (let z : ◌≡◌ {A = ℕ} 0 1 = cc in omega arith)
-
-number-some : (end : ℕ) (o : Option ℕ) {x s : ℕ} → Number·.Value x s ≡ number_to end o → (o ≡ some x) × (s ≡ end)
-number-some end none h = absurd (let z : ◌≡◌ {A = ℕ} 0 1 = cc in omega arith)
-number-some end (some y) {x} h = let e : y ≡ x = cc in (ap some e, cc)
-
-field_bad : (at count : ℕ) (text : List ℕ) → Number·.Bad ≡ read_field at text → scan (suc count) text ≡ none
+field_bad : (at count : ℕ) (text : List ℕ) → None ≡ read_field at text → scan (suc count) text ≡ none
 unfolding read_field read_number
 field_bad at count [] h = refl
 field_bad at count (b ∷ bs) h =
     elim (ℕ_discrete b space) [
       | yes q ↦
-          let e = number-none (at + 1 + length (run bs)) (number (run bs)) (rw (eq-eqb b space q) at h) in
+          let e = spelled_none (at + 1 + length (run bs)) (number (run bs)) (rw (eq-eqb b space q) at h) in
           rw (eq-eqb b space q, e)
       | no q ↦ rw (ne_eqb b space q)
     ]
 
-field_value : (at count : ℕ) (text : List ℕ) {x s : ℕ} → Number·.Value x s ≡ read_field at text
+field_value : (at count : ℕ) (text : List ℕ) {x s : ℕ} → Some (x, s) ≡ read_field at text
     → (L : ℕ) × (s ≡ at + L) × (L ≤ length text) × (scan (suc count) text ≡ both (some x) (scan count (drop L text)))
 unfolding read_field read_number
 field_value at count [] h = absurd (let z : ◌≡◌ {A = ℕ} 0 1 = cc in omega arith)
 field_value at count (b ∷ bs) h =
     elim (ℕ_discrete b space) [
       | yes q ↦
-          let e = number-some (at + 1 + length (run bs)) (number (run bs)) (rw (eq-eqb b space q) at h) in
+          let e = spelled_some (at + 1 + length (run bs)) (number (run bs)) (rw (eq-eqb b space q) at h) in
           (suc (length (run bs)), omega (arith, e.1), omega (arith, run_short bs), rw (eq-eqb b space q, e.0))
       | no q ↦ absurd (let z : ◌≡◌ {A = ℕ} 0 1 = cc (rw (ne_eqb b space q) at h) in omega arith)
     ]
@@ -175,12 +166,19 @@ three (x ∷ []) = refl
 three (x ∷ y ∷ []) = refl
 three (x ∷ y ∷ z ∷ xs) = rw (sets_past (x ∷ y ∷ z ∷ []) 3 xs (omega arith))
 
+three_whole : (ns : List ℕ) → length ns ≡ 3 → three_of (some ns) ≡ Some ns
+three_whole [] h = absurd (omega arith)
+three_whole (x ∷ []) h = absurd (omega arith)
+three_whole (x ∷ y ∷ []) h = absurd (omega arith)
+three_whole (x ∷ y ∷ z ∷ []) h = refl
+three_whole (x ∷ y ∷ z ∷ u ∷ ns) h = absurd (omega arith)
+
 handed : (ns : List ℕ) (o : Option (List ℕ)) → some ns ≡ stored (0 ∷ 0 ∷ 0 ∷ []) 0 o → three_of (some ns) ≡ three_of o
 handed ns none h = absurd (let z : ◌≡◌ {A = ℕ} 0 1 = cc in omega arith)
 handed ns (some xs) h = ap three_of h ∙ three xs
 
 module _ {script : List ℕ} {at end count : ℕ} {ns : List ℕ} {i k : ℕ} (g : Going script at end count ns i k) where
-  refused : scan (count - k) (slice i end script) ≡ none → Operands·.Bad ≡ three_of (operands count (slice at end script))
+  refused : scan (count - k) (slice i end script) ≡ none → None ≡ three_of (operands count (slice at end script))
   refused e =
       let n = stored_none (0 ∷ 0 ∷ 0 ∷ []) 0 (scan count (slice at end script)) (sym (ap (stored ns k) e) ∙ g.so_far) in
       rw (operands-scan count (slice at end script), n)
@@ -189,10 +187,10 @@ module _ {script : List ℕ} {at end count : ℕ} {ns : List ℕ} {i k : ℕ} (g
     left : count - k ≡ suc (count - (k + 1))
     left = omega arith
 
-    pub field-refused : Number·.Bad ≡ read_field i (slice i end script) → Operands·.Bad ≡ three_of (operands count (slice at end script))
+    pub field-refused : None ≡ read_field i (slice i end script) → None ≡ three_of (operands count (slice at end script))
     field-refused e = refused (rw left (field_bad i (count - (k + 1)) (slice i end script) e))
 
-    pub field_stored : {x s : ℕ} → Number·.Value x s ≡ read_field i (slice i end script) → Going script at end count (set ns k x) s (k + 1)
+    pub field_stored : {x s : ℕ} → Some (x, s) ≡ read_field i (slice i end script) → Going script at end count (set ns k x) s (k + 1)
     field_stored {x} {s} e =
         let q = field_value i (count - (k + 1)) (slice i end script) e in
         let rest : drop q.0 (slice i end script) ≡ slice s end script = drop-drop q.0 i (take end script) ∙ ap (λ n. drop n (take end script)) (sym q.1) in
@@ -212,11 +210,11 @@ module _ {script : List ℕ} {at end count : ℕ} {ns : List ℕ} {i k : ℕ} (g
     none_left : count - k ≡ 0
     none_left = omega arith
 
-    pub more_there : (i ≡ end → ⊥) → Operands·.Bad ≡ three_of (operands count (slice at end script))
+    pub more_there : (i ≡ end → ⊥) → None ≡ three_of (operands count (slice at end script))
     more_there n = refused (rw (none_left, first_there g.within n))
 
-    pub all_there : i ≡ end → three_of (some ns) ≡ three_of (operands count (slice at end script))
+    pub all_there : i ≡ end → Some ns ≡ three_of (operands count (slice at end script))
     all_there e =
         let t = nothing_there g.within e in
         let q : some ns ≡ stored (0 ∷ 0 ∷ 0 ∷ []) 0 (scan count (slice at end script)) = rw (none_left, t) at g.so_far in
-        handed ns (scan count (slice at end script)) q ∙ ap three_of (sym (operands-scan count (slice at end script)))
+        sym (three_whole ns g.long) ∙ handed ns (scan count (slice at end script)) q ∙ ap three_of (sym (operands-scan count (slice at end script)))

@@ -1,10 +1,6 @@
 -- The numbers stored and those left to scan are the operands.
-use Rattle.std.proofs.Common.{◌-◌}
 use Rattle.text.proofs.Scanning.{Going}
 use Rattle.text.proofs.parts.read_operands.Given as goal
 
 abbrev pub invariant-loop-k : goal.invariant-loop-k
 invariant-loop-k l = Going l.script l.at l.end l.count l.numbers l.i l.k
-
-abbrev pub decreases-loop-k : goal.decreases-loop-k
-decreases-loop-k l = l.count - l.k

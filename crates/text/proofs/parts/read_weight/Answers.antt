@@ -1,36 +1,34 @@
 -- The field, by its first byte and by the digits read.
-use Rattle.std.proofs.Common.{◌≡◌, arith, pos, to_z, w32}
-use lib.IntN.{neg_ℤ}
-use Rattle.text.proofs.Fields.{first_there, negative_bad, negative_over, negative_fits, plain_bad, plain_over, plain_fits}
-use Rattle.printing.proofs.Signs.{opposite_back, opposite_fits, back32}
+use Rattle.std.proofs.Common.{◌∙◌, arith}
+use Rattle.printing.proofs.Signs.{opposite, mag_opposite}
+use Rattle.text.proofs.Fields.{first_there, whole_small, negative_bad, plain_bad}
+use Rattle.text.proofs.Turned.{negative_turned, plain_turned}
 use Rattle.text.proofs.parts.read_weight.Goals as goal
 
-pub returns-in_default : goal.returns-in_default
-returns-in_default c = rw (first_there c.requires c.if-at-end.false) (negative_bad _ _ _ c.if-script-at-eq45.true c.read_whole.ensures c.in_default.is)
+pub returns-in_err-value : goal.returns-in_err-value
+returns-in_err-value c =
+    c.from_residual.ensures ∙ rw (first_there c.requires c.if-at-end.false) (negative_bad _ _ _ c.if-script-at-eq45.true c.read_whole.ensures c.in_err-value.was)
 
-pub returns-then-value-gt2147483648 : goal.returns-then-value-gt2147483648
-returns-then-value-gt2147483648 c =
-    rw (first_there c.requires c.if-at-end.false) (negative_over _ _ _ c.if-script-at-eq45.true c.read_whole.ensures c.in-Value.is (omega arith))
+pub overflow_cast-value : goal.overflow_cast-value
+overflow_cast-value c = record { sfits = omega (arith, whole_small _ _ c.read_whole.ensures c.in_ok-value.was) }
+
+pub overflow_sub-value : goal.overflow_sub-value
+overflow_sub-value c =
+    let v = c.in_ok-value.value in
+    let h = whole_small _ _ c.read_whole.ensures c.in_ok-value.was in
+    rw (opposite v (omega (arith, h))) (record { sfits = omega (arith, h, mag_opposite v) })
 
 pub returns-then-script-at-eq45 : goal.returns-then-script-at-eq45
 returns-then-script-at-eq45 c =
-    let x = c.in-Value.value in
-    let few = c.if-value-gt2147483648.false in
-    rw (first_there c.requires c.if-at-end.false, opposite_back x few, back32 (neg_ℤ (pos x)) (opposite_fits x few))
-    (negative_fits _ _ _ c.if-script-at-eq45.true c.read_whole.ensures c.in-Value.is (omega arith))
+    rw (first_there c.requires c.if-at-end.false)
+    (c.ok.ensures.value ∙ negative_turned _ _ _ _ c.if-script-at-eq45.true c.read_whole.ensures c.in_ok-value.was c.try_from.ensures)
 
-pub returns-in_default-read_whole : goal.returns-in_default-read_whole
-returns-in_default-read_whole c =
+pub returns-in_err-value-2 : goal.returns-in_err-value-2
+returns-in_err-value-2 c =
     let e = first_there c.requires c.if-at-end.false in
-    rw e (plain_bad _ _ _ c.if-script-at-eq45.false (rw e at c.read_whole-2.ensures) c.in_default-read_whole.is)
-
-pub returns-then-value-gt2147483647 : goal.returns-then-value-gt2147483647
-returns-then-value-gt2147483647 c =
-    let e = first_there c.requires c.if-at-end.false in
-    rw e (plain_over _ _ _ c.if-script-at-eq45.false (rw e at c.read_whole-2.ensures) c.in-Value-read_whole.is (omega arith))
+    c.from_residual-in_err-value-2.ensures ∙ rw e (plain_bad _ _ _ c.if-script-at-eq45.false (rw e at c.read_whole-2.ensures) c.in_err-value-2.was)
 
 pub returns : goal.returns
 returns c =
     let e = first_there c.requires c.if-at-end.false in
-    let b : to_z w32 c.in-Value-read_whole.value ≡ pos c.in-Value-read_whole.value = back32 (pos c.in-Value-read_whole.value) (omega arith) in
-    rw (e, b) (plain_fits _ _ _ c.if-script-at-eq45.false (rw e at c.read_whole-2.ensures) c.in-Value-read_whole.is (omega arith))
+    rw e (c.ok-2.ensures.value ∙ plain_turned _ _ _ _ c.if-script-at-eq45.false (rw e at c.read_whole-2.ensures) c.in_ok-value-2.was c.try_from-2.ensures)
