@@ -1,14 +1,11 @@
 -- Finding the edge between two nodes. It compares the far end only.
-use Rattle.std.specs.Prelude.{ℕ, ltb, set}
+use Rattle.std.specs.Prelude.{ℕ, Bool, cond, ltb, set, Some, None, Result, Ok, Err}
+use Rattle.index.specs.declared.Refusal.{Refusal}
 use Rattle.index.specs.declared.Refusal.TheVariants.{Tables, NoNode, Nothing, Broken}
 use Rattle.tables.specs.Net.{Net, fits, with_edges}
-use Rattle.tables.specs.Answers.{Told, Out, out, done, refused, unless}
+use Rattle.tables.specs.Answers.{Told, Out, out, done, refused, unless, told_as}
 use Rattle.rows.specs.Calls.{add_edge}
-use Rattle.find.specs.declared.Sought.{Sought}
-use Rattle.find.specs.declared.Sought.TheVariants.{Row, Missing, Endless}
-use Rattle.find.specs.Parts.{sought_from}
-use Rattle.find.specs.declared.Contains.{Contains}
-use Rattle.find.specs.declared.Contains.TheVariants as Contains·
+use Rattle.find.specs.Parts.{Sought, sought_from}
 
 -- the search of node a's lists for a row whose far end is b
 abbrev pub sought : Net → ℕ → ℕ → Sought
@@ -16,9 +13,9 @@ sought g a b = sought_from g.heads g.links g.ends g.m a b
 
 -- what each outcome of the search comes to
 abbrev pub on : {A : Type 0} → Sought → (ℕ → A) → A → A → A
-on (Row e k) found missing endless = found e.0
-on Missing found missing endless = missing
-on Endless found missing endless = endless
+on (Ok (Some row)) found missing endless = found row.0.0
+on (Ok None) found missing endless = missing
+on (Err why) found missing endless = endless
 
 unfoldable pub find_edge : Net → ℕ → ℕ → Told ℕ
 find_edge g a b =
@@ -41,7 +38,5 @@ update_edge g a b w =
     (on (sought g a b) (λ e. out (done e) (with_edges g (set g.registers e w) g.links g.ends)) (add_edge g a b w) (out (refused Broken 0) g)))
 
 -- the answers of `contains_edge` by number and value
-abbrev pub told_contains : Contains → Told ℕ
-told_contains Contains·.Yes = done 1
-told_contains Contains·.No = done 0
-told_contains (Contains·.Refused why) = refused why 0
+abbrev pub told_contains : Result Bool Refusal → Told ℕ
+told_contains = told_as (λ (yes : Bool). cond yes 1 0) 0

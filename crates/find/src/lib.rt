@@ -2,89 +2,51 @@
 #![tactic(auto)]
 
 ghost use Rattle.std.specs.Prelude.{◌≡◌};
-ghost use Rattle.tables.specs.Net.{entering, leaving};
+ghost use Rattle.tables.specs.Net.{entering, leaving, net_of};
 ghost use Rattle.tables.specs.Answers.{out, told_edge};
 ghost use Rattle.find.specs.Find.{find_edge, contains_edge, update_edge, told_contains};
 
 use index::{EdgeIndex, NodeIndex, Refusal};
 use parts::seek;
-use tables::EdgeAnswer;
+use tables::Network;
 use tables::parts::fits;
 
 pub mod parts;
 
-// What a search of both lists of a node comes to: a row and the direction of the list it was found in, or none.
-#[derive(Clone, Copy)]
-pub enum Sought {
-    Row(EdgeIndex, usize),
-    Missing,
-    Endless,
-}
-
-#[derive(Clone, Copy)]
-pub enum Contains {
-    Yes,
-    No,
-    Refused(Refusal),
-}
-
 // The first edge of a whose far end is b: the outgoing list first, then the incoming one.
-pub fn find_edge(
-    weights: &[i32],
-    heads: &[u32],
-    registers: &[u32],
-    links: &[u32],
-    ends: &[u32],
-    n: u32,
-    m: u32,
-    a: NodeIndex,
-    b: NodeIndex,
-) -> EdgeAnswer
-    ensures { told_edge result ≡ find_edge (entering weights.now heads.now registers.now links.now ends.now n m) a.0 b.0 }
+#[tactic(auto, using(tables::proofs::Guards::guards, tables::proofs::Laws::fitting), unfolding(crate::specs::Find::find_edge))]
+pub fn find_edge(net: Network, a: NodeIndex, b: NodeIndex) -> Result<EdgeIndex, Refusal>
+    ensures { told_edge result ≡ find_edge (net_of net.entry) a.0 b.0 }
 {
-    if !fits(weights, heads, registers, links, ends, n, m) {
-        return EdgeAnswer::Refused(Refusal::Tables);
+    if !net.fits() {
+        return Err(Refusal::Tables);
     }
-    if n <= a.0 {
-        return EdgeAnswer::Refused(Refusal::NoNode);
+    if net.n <= a.0 {
+        return Err(Refusal::NoNode);
     }
-    let found = seek(heads, links, ends, m, a, b);
-    match found {
-        Sought::Row(e, _) => EdgeAnswer::Edge(e),
-        Sought::Missing => EdgeAnswer::Refused(Refusal::Nothing),
-        Sought::Endless => EdgeAnswer::Refused(Refusal::Broken),
+    match seek(net.heads, net.links, net.ends, net.m, a, b)? {
+        Some((e, _)) => Ok(e),
+        None => Err(Refusal::Nothing),
     }
 }
 
 // Whether there is such an edge. A missing node has none.
-pub fn contains_edge(
-    weights: &[i32],
-    heads: &[u32],
-    registers: &[u32],
-    links: &[u32],
-    ends: &[u32],
-    n: u32,
-    m: u32,
-    a: NodeIndex,
-    b: NodeIndex,
-) -> Contains
-    ensures { told_contains result ≡ contains_edge (entering weights.now heads.now registers.now links.now ends.now n m) a.0 b.0 }
+#[tactic(auto, using(tables::proofs::Guards::guards, tables::proofs::Laws::fitting), unfolding(crate::specs::Find::contains_edge))]
+pub fn contains_edge(net: Network, a: NodeIndex, b: NodeIndex) -> Result<bool, Refusal>
+    ensures { told_contains result ≡ contains_edge (net_of net.entry) a.0 b.0 }
 {
-    if !fits(weights, heads, registers, links, ends, n, m) {
-        return Contains::Refused(Refusal::Tables);
+    if !net.fits() {
+        return Err(Refusal::Tables);
     }
-    if n <= a.0 {
-        return Contains::No;
+    if net.n <= a.0 {
+        return Ok(false);
     }
-    let found = seek(heads, links, ends, m, a, b);
-    match found {
-        Sought::Row(_, _) => Contains::Yes,
-        Sought::Missing => Contains::No,
-        Sought::Endless => Contains::Refused(Refusal::Broken),
-    }
+    let found = seek(net.heads, net.links, net.ends, net.m, a, b)?;
+    Ok(found.is_some())
 }
 
 // Sets the weight of the edge that is found, even in a full table; else adds one.
+#[tactic(auto, using(tables::proofs::Guards::guards, tables::proofs::Laws::fitting), unfolding(crate::specs::Find::update_edge))]
 pub fn update_edge(
     weights: &[i32],
     heads: &mut [u32],
@@ -96,23 +58,19 @@ pub fn update_edge(
     a: NodeIndex,
     b: NodeIndex,
     w: u32,
-) -> EdgeAnswer
+) -> Result<EdgeIndex, Refusal>
     ensures { out (told_edge result) (leaving weights.now heads.new registers.new links.new ends.new n m.new)
         ≡ update_edge (entering weights.now heads.old registers.old links.old ends.old n m.old) a.0 b.0 w }
 {
     if !fits(weights, heads, registers, links, ends, n, *m) {
-        return EdgeAnswer::Refused(Refusal::Tables);
+        return Err(Refusal::Tables);
     }
-    if n <= a.0 {
-        return rows::add_edge(weights, heads, registers, links, ends, n, m, a, b, w);
-    }
-    let found = seek(heads, links, ends, *m, a, b);
-    match found {
-        Sought::Row(e, _) => {
+    // A missing node has no edge to find; what refuses it refuses the new edge.
+    if a.0 < n {
+        if let Some((e, _)) = seek(heads, links, ends, *m, a, b)? {
             registers[e.index()] = w;
-            EdgeAnswer::Edge(e)
+            return Ok(e);
         }
-        Sought::Missing => rows::add_edge(weights, heads, registers, links, ends, n, m, a, b, w),
-        Sought::Endless => EdgeAnswer::Refused(Refusal::Broken),
     }
+    rows::add_edge(weights, heads, registers, links, ends, n, m, a, b, w)
 }

@@ -2,13 +2,12 @@
 ghost use Rattle.std.specs.Prelude.{◌≡◌, length};
 ghost use Rattle.find.specs.Parts.{sought_from, Searchable};
 
-use crate::Sought;
-use index::NodeIndex;
+use index::{EdgeDirection, EdgeIndex, NodeIndex, Refusal};
 use lists::parts::first;
 use lists::{Found, Pick};
-use tables::parts::{INCOMING, NODE_CELLS, OUTGOING};
+use tables::parts::NODE_CELLS;
 
-// The first row of a whose far end is b: the outgoing list first, then the incoming one.
+// The first row of a whose far end is b, and the direction of the list that has it: the outgoing list first, then the incoming one.
 pub fn seek(
     heads: &[u32],
     links: &[u32],
@@ -16,36 +15,18 @@ pub fn seek(
     m: u32,
     a: NodeIndex,
     b: NodeIndex,
-) -> Sought
+) -> Result<Option<(EdgeIndex, usize)>, Refusal>
     requires { Searchable (length heads.now) (length links.now) (length ends.now) m a.0 }
     ensures { result ≡ sought_from heads.now links.now ends.now m a.0 b.0 }
 {
-    let node = NODE_CELLS * a.index();
-    let out = first(
-        links,
-        ends,
-        m,
-        OUTGOING,
-        Pick::To(b),
-        heads[node + OUTGOING],
-    );
-    match out {
-        Found::At(e) => Sought::Row(e, OUTGOING),
-        Found::Broken => Sought::Endless,
-        Found::End(_) => {
-            let back = first(
-                links,
-                ends,
-                m,
-                INCOMING,
-                Pick::To(b),
-                heads[node + INCOMING],
-            );
-            match back {
-                Found::At(e) => Sought::Row(e, INCOMING),
-                Found::Broken => Sought::Endless,
-                Found::End(_) => Sought::Missing,
-            }
+    for direction in EdgeDirection::ALL {
+        let k = direction.number();
+        let link = heads[NODE_CELLS * a.index() + k];
+        match first(links, ends, m, k, Pick::To(b), link) {
+            Found::At(e) => return Ok(Some((e, k))),
+            Found::End(_) => {}
+            Found::Broken => return Err(Refusal::Broken),
         }
     }
+    Ok(None)
 }

@@ -1,34 +1,13 @@
-use Rattle.std.proofs.Common.{◌≡◌, ◌<◌, ℕ, true, arith}
-use Rattle.index.specs.declared.Refusal.TheVariants.{Nothing, Broken}
-use Rattle.tables.specs.Net.{Net, fits}
-use Rattle.tables.specs.Answers.{done, refused}
+-- A search is refused for 6 alone.
+use Rattle.std.proofs.lemmas.Result.{err_from_is_err_and}
 use Rattle.tables.proofs.Guards.{guards}
-use Rattle.tables.proofs.Laws.{fitting, fitted}
-use Rattle.find.specs.declared.Sought.{Sought}
-use Rattle.find.specs.Find.{on, sought, find_edge}
+use Rattle.find.specs.Find.{find_edge}
+use Rattle.find.proofs.Laws.{sought-broken}
 use Rattle.find.proofs.find_edge.Goals as goal
 
--- by what the search came to
-told : (g : Net) (a b : ℕ) (v : Sought) → fits g ≡ true → a < g.n → v ≡ sought g a b → on v (λ x. done x) (refused Nothing 0) (refused Broken 0) ≡ find_edge g a b
+pub returns-in_err-e : goal.returns-in_err-e
 unfolding find_edge
-told g a b v p q e = rw e (search guards depth 9)
-
-pub returns-then-not-fits : goal.returns-then-not-fits
-unfolding find_edge
-returns-then-not-fits c = search guards depth 9
-
-pub returns-then-n-a : goal.returns-then-n-a
-unfolding find_edge
-returns-then-n-a c = search guards depth 9
-
-pub seek-found-requires : goal.seek-found-requires
-seek-found-requires c = let f = fitting c.fits.ensures c.if-not-fits.false in record { node_row_lem = omega arith; links_hold = omega arith; ends_hold = omega arith }
-
-pub returns-in-Row : goal.returns-in-Row
-returns-in-Row c = told _ _ _ _ (fitted c.fits.ensures c.if-not-fits.false) c.if-n-a.false c.in-Row.ensures
-
-pub returns-in-Missing : goal.returns-in-Missing
-returns-in-Missing c = told _ _ _ _ (fitted c.fits.ensures c.if-not-fits.false) c.if-n-a.false c.in-Missing.ensures
-
-pub returns-in-Endless : goal.returns-in-Endless
-returns-in-Endless c = told _ _ _ _ (fitted c.fits.ensures c.if-not-fits.false) c.if-n-a.false c.in-Endless.ensures
+returns-in_err-e c =
+    let p = err_from_is_err_and c.from_residual.result c.from_residual.ensures.1 in
+    let s = sought-broken _ _ _ _ _ _ c.seek.ensures c.in_err-e.was in
+    rw (p.1, p.2, s.0, s.1) (search guards depth 9)

@@ -1,44 +1,36 @@
--- Each arm is told by how the search of a list ended.
-use Rattle.std.proofs.Common.{◌∙◌, sym}
-use Rattle.find.specs.declared.Sought.TheVariants.{Missing}
+-- Each list is told by how its search ended.
+use Rattle.std.proofs.Common.{refl, ◌∙◌, ◌≡◌, sym, arith}
 use Rattle.find.specs.Parts.{sought_from}
-use Rattle.find.proofs.Laws.{told-by}
+use Rattle.find.proofs.Laws.{turn}
 use Rattle.find.proofs.parts.seek.Goals as goal
 
-pub returns-in-At : goal.returns-in-At
+pub loop-direction-init : goal.loop-direction-init
 unfolding sought_from
+loop-direction-init c = refl
+
+pub returns-in-At : goal.returns-in-At
 returns-in-At c =
     let a = c.args in
-    let out = rw c.index-node.ensures at c.in-At.ensures in
-    told-by a.heads.now a.links.now a.ends.now a.m a.a.0 a.b.0 0 _ _ (sym out)
+    let t = turn a.heads.now a.links.now a.ends.now a.m a.a.0 a.b.0 c.loop-direction.direction-index c.loop-direction-test.true c.number-k.ensures
+    (rw c.index.ensures at c.in-At.ensures) in
+    sym (c.loop-direction.invariant ∙ t)
 
 pub returns-in-Broken : goal.returns-in-Broken
-unfolding sought_from
 returns-in-Broken c =
     let a = c.args in
-    let out = rw c.index-node.ensures at c.in-Broken.ensures in
-    told-by a.heads.now a.links.now a.ends.now a.m a.a.0 a.b.0 0 _ _ (sym out)
+    let t = turn a.heads.now a.links.now a.ends.now a.m a.a.0 a.b.0 c.loop-direction.direction-index c.loop-direction-test.true c.number-k.ensures
+    (rw c.index.ensures at c.in-Broken.ensures) in
+    sym (c.loop-direction.invariant ∙ t)
 
-pub returns-in-At-back : goal.returns-in-At-back
-unfolding sought_from
-returns-in-At-back c =
+pub loop-direction-preserved : goal.loop-direction-preserved
+loop-direction-preserved c =
     let a = c.args in
-    let out = rw c.index-node.ensures at c.in-End.ensures in
-    let back = rw c.index-node.ensures at c.in-At-back.ensures in
-    told-by a.heads.now a.links.now a.ends.now a.m a.a.0 a.b.0 1 Missing _ (sym back) ∙ told-by a.heads.now a.links.now a.ends.now a.m a.a.0 a.b.0 0 _ _ (sym out)
+    let t = turn a.heads.now a.links.now a.ends.now a.m a.a.0 a.b.0 c.loop-direction.direction-index c.loop-direction-test.true c.number-k.ensures
+    (rw c.index.ensures at c.in-End.ensures) in
+    c.loop-direction.invariant ∙ t
 
-pub returns-in-Broken-back : goal.returns-in-Broken-back
-unfolding sought_from
-returns-in-Broken-back c =
+pub returns : goal.returns
+returns c =
     let a = c.args in
-    let out = rw c.index-node.ensures at c.in-End.ensures in
-    let back = rw c.index-node.ensures at c.in-Broken-back.ensures in
-    told-by a.heads.now a.links.now a.ends.now a.m a.a.0 a.b.0 1 Missing _ (sym back) ∙ told-by a.heads.now a.links.now a.ends.now a.m a.a.0 a.b.0 0 _ _ (sym out)
-
-pub returns-in-End-back : goal.returns-in-End-back
-unfolding sought_from
-returns-in-End-back c =
-    let a = c.args in
-    let out = rw c.index-node.ensures at c.in-End.ensures in
-    let back = rw c.index-node.ensures at c.in-End-back.ensures in
-    told-by a.heads.now a.links.now a.ends.now a.m a.a.0 a.b.0 1 Missing _ (sym back) ∙ told-by a.heads.now a.links.now a.ends.now a.m a.a.0 a.b.0 0 _ _ (sym out)
+    let i : c.loop-direction.direction-index ≡ 2 = omega arith in
+    sym (rw i at c.loop-direction.invariant)
