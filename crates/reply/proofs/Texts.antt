@@ -1,15 +1,8 @@
 -- The parts of an answer line, and how long each is. Assumes nothing.
-use Prim.Native.Nat.{ℕ, ◌+◌, ◌*◌, ◌^◌, ◌<◌, ◌≤◌}
+use Prim.Native.Nat.{ℕ, ◌+◌, ◌*◌, ◌≤◌}
 use mathlib.Core.Path.{◌≡◌, refl, ap, ◌∙◌}
-use mathlib.Core.Bool.{false}
 use mathlib.Core.List.{List, [], ◌∷◌, ◌++◌}
 use native.Mathlib.Omega.{arith}
-use mir.Syntax.{w64}
-use mir.Val.{to_z, of_z}
-use mir.Facts.{to_z-of_z}
-use lib.Dec.{ltb}
-use lib.IntN.{ℤ}
-use lib.Signed.{mag}
 use lib.ListN.{length, take, length-append}
 use lib.Seq.{length-take-le}
 use Rattle.printing.specs.Bytes.{newline}
@@ -17,25 +10,21 @@ use Rattle.printing.specs.Digits.{digits, field, fields_text}
 use Rattle.printing.specs.Parts.{Measures, Writes}
 use Rattle.printing.proofs.Putting.{writes_on}
 use Rattle.reply.specs.declared.Reply.{Reply}
-use Rattle.reply.specs.Replies.{values_text, line_of}
-use Rattle.reply.specs.Parts.{Listed, value_field, head_text}
-
--- a value passed on as 64 bits comes back
-pub back : (z : ℤ) → mag z < 2 ^ 63 → to_z w64 (of_z w64 z) ≡ z
-back z h = to_z-of_z {w = w64} (record { sfits = h })
+use Rattle.reply.specs.Replies.{value_field, values_text, line_of}
+use Rattle.reply.specs.Parts.{Listed, head_text}
 
 three_long : (xs ys zs : List ℕ) → length (xs ++ ys ++ zs) ≡ length xs + length ys + length zs
 three_long xs ys zs = omega (arith, length-append (xs ++ ys) zs, length-append xs ys)
 
--- the three values, each where it is shown
+-- the three values, each where the reply has it
 abbrev pub first_field : Reply → List ℕ
-first_field r = value_field (ltb 0 r.values) false r.first
+first_field r = value_field r.first
 
 abbrev pub second_field : Reply → List ℕ
-second_field r = value_field (ltb 1 r.values) r.none r.second
+second_field r = value_field r.second
 
 abbrev pub third_field : Reply → List ℕ
-third_field r = value_field (ltb 2 r.values) false r.third
+third_field r = value_field r.third
 
 pub values_long : (r : Reply) → length (values_text r) ≡ length (first_field r) + length (second_field r) + length (third_field r)
 values_long r = three_long (first_field r) (second_field r) (third_field r)

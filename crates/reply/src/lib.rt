@@ -6,17 +6,21 @@ ghost use Rattle.reply.specs.Replies.{bare_reply};
 
 pub mod parts;
 
-// What a command answers: its letter, the answer number, up to three values, and how many items of the output table follow.
-// The second value is printed as `-` where there is none: no row moved.
+// A value of an answer line: a number, or the `-` that stands where no row moved.
+#[derive(Clone, Copy)]
+pub enum Value {
+    Number(i64),
+    NoRow,
+}
+
+// What a command answers: its letter, the answer number, the values that it has, and how many items of the output table follow.
 #[derive(Clone, Copy)]
 pub struct Reply {
     pub letter: u8,
     pub number: u32,
-    pub values: usize,
-    pub first: i64,
-    pub second: i64,
-    pub none: bool,
-    pub third: i64,
+    pub first: Option<Value>,
+    pub second: Option<Value>,
+    pub third: Option<Value>,
     pub items: usize,
 }
 
@@ -28,19 +32,10 @@ impl Reply {
         Reply {
             letter,
             number,
-            values: 0,
-            first: 0,
-            second: 0,
-            none: false,
-            third: 0,
+            first: None,
+            second: None,
+            third: None,
             items: 0,
         }
     }
-}
-
-// Where the answers end once a line is written, or that it did not fit.
-#[derive(Clone, Copy)]
-pub enum Written {
-    Upto(usize),
-    Full,
 }

@@ -1,34 +1,29 @@
 // What measures and writes an answer line. Each asks for the room and the items that it touches.
 ghost use Rattle.std.specs.Prelude.{◌≡◌, ◌+◌, ◌*◌, ◌≤◌, length};
 ghost use Rattle.printing.specs.Parts.{Measures, Writes};
-ghost use Rattle.reply.specs.Replies.{values_text, line_of};
-ghost use Rattle.reply.specs.Parts.{Listed, Room, value_field, head_text, answered};
+ghost use Rattle.reply.specs.Replies.{value_field, values_text, line_of};
+ghost use Rattle.reply.specs.Parts.{Listed, Room, head_text, answered};
 
-use crate::{Reply, Written};
+use crate::{Reply, Value};
 use printing::parts::{
     fields_width, signed_width, width, write_byte, write_field, write_fields, write_signed_field,
 };
 
-// How many bytes a value takes with its space: none where it is not shown.
-fn value_width(shown: bool, none: bool, z: i64) -> usize
-    ensures { Measures (value_field shown none z) 21 result }
+// How many bytes a value takes with its space: none where the reply has it not.
+fn value_width(value: Option<Value>) -> usize
+    ensures { Measures (value_field value) 21 result }
 {
-    if !shown {
-        return 0;
+    match value {
+        None => 0,
+        Some(Value::NoRow) => 2,
+        Some(Value::Number(z)) => 1 + signed_width(z),
     }
-    if none {
-        return 2;
-    }
-    1 + signed_width(z)
 }
 
 fn values_width(reply: Reply) -> usize
     ensures { Measures (values_text reply) 63 result }
 {
-    let first = value_width(0 < reply.values, false, reply.first);
-    let second = value_width(1 < reply.values, reply.none, reply.second);
-    let third = value_width(2 < reply.values, false, reply.third);
-    first + second + third
+    value_width(reply.first) + value_width(reply.second) + value_width(reply.third)
 }
 
 // How many bytes the line takes: letter, number with its space, values, items, newline.
@@ -40,27 +35,27 @@ pub fn line_width(reply: Reply, items: &[u32]) -> usize
     head + fields_width(&items[..reply.items]) + 1
 }
 
-fn write_value(out: &mut [u8], at: usize, shown: bool, none: bool, z: i64) -> usize
-    requires { at + length (value_field shown none z) ≤ length out.old }
-    ensures { Writes out.old out.new at (value_field shown none z) result }
+fn write_value(out: &mut [u8], at: usize, value: Option<Value>) -> usize
+    requires { at + length (value_field value) ≤ length out.old }
+    ensures { Writes out.old out.new at (value_field value) result }
 {
-    if !shown {
-        return at;
+    match value {
+        None => at,
+        Some(Value::NoRow) => {
+            let to = write_byte(out, at, b' ');
+            write_byte(out, to, b'-')
+        }
+        Some(Value::Number(z)) => write_signed_field(out, at, z),
     }
-    if none {
-        let to = write_byte(out, at, b' ');
-        return write_byte(out, to, b'-');
-    }
-    write_signed_field(out, at, z)
 }
 
 fn write_values(out: &mut [u8], at: usize, reply: Reply) -> usize
     requires { at + length (values_text reply) ≤ length out.old }
     ensures { Writes out.old out.new at (values_text reply) result }
 {
-    let second = write_value(out, at, 0 < reply.values, false, reply.first);
-    let third = write_value(out, second, 1 < reply.values, reply.none, reply.second);
-    write_value(out, third, 2 < reply.values, false, reply.third)
+    let second = write_value(out, at, reply.first);
+    let third = write_value(out, second, reply.second);
+    write_value(out, third, reply.third)
 }
 
 // What stands before the items: letter, answer number, values.
@@ -83,13 +78,14 @@ pub fn write_line(out: &mut [u8], at: usize, reply: Reply, items: &[u32]) -> usi
     write_byte(out, newline, b'\n')
 }
 
-// Writes the line behind the answers so far, which end at `at`, where it ends at `limit` or before: whole or not at all.
-pub fn answer(out: &mut [u8], at: usize, limit: usize, reply: Reply, items: &[u32]) -> Written
+// Writes the line behind the answers so far, which end at `at`, where it ends at `limit` or before: whole or not at all. Where the answers
+// end then; `None` where the line did not fit.
+pub fn answer(out: &mut [u8], at: usize, limit: usize, reply: Reply, items: &[u32]) -> Option<usize>
     requires { Listed reply items.now × Room at limit out.old }
     ensures { (result, out.new) ≡ answered out.old at limit (line_of reply items.now) }
 {
     if limit - at < line_width(reply, items) {
-        return Written::Full;
+        return None;
     }
-    Written::Upto(write_line(out, at, reply, items))
+    Some(write_line(out, at, reply, items))
 }
