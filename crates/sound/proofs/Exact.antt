@@ -10,27 +10,26 @@ use native.Mathlib.Omega.{arith}
 use borrow.Author.Tests.{lt-ltb, le-ltb, eq-eqb, ne_eqb}
 use lib.Dec.{eqb}
 use lib.ListN.{length}
+use Rattle.std.specs.Prelude.{Ok, Err}
 use Rattle.index.specs.Index.{END}
 use Rattle.lists.specs.declared.Spot.{Spot}
 use Rattle.lists.specs.declared.Spot.TheVariants.{Head, After}
 use Rattle.lists.specs.Walk.{walk}
 use Rattle.lists.proofs.Chains.{chain_walked}
-use Rattle.sound.specs.declared.Walked.{Walked}
-use Rattle.sound.specs.declared.Walked.TheVariants.{Read, FaultAt}
 use Rattle.sound.specs.Sound.{Lists}
-use Rattle.sound.specs.Check.{walked, and_then, node_walked, up_to, one_way}
+use Rattle.sound.specs.Check.{Walked, fault, walked, and_then, node_walked, up_to, one_way}
 use Rattle.sound.specs.Answer.{Own}
 use Rattle.sound.proofs.Walks.{at_end, spent, past, strange, on}
 use Rattle.sound.proofs.Listings.{total, at_most, full, counted}
 
 -- `and_then` comes to rows, or to a fault
-pub through : (w : Walked) (f : ℕ → Walked) (r : ℕ) → and_then w f ≡ Read r → (q : ℕ) × (w ≡ Read q) × (f q ≡ Read r)
-through (Read q) f r h = (q, refl, h)
-through (FaultAt b) f r h = absurd (let z : ◌≡◌ {A = ℕ} 0 1 = cc in omega arith)
+pub through : (w : Walked) (f : ℕ → Walked) (r : ℕ) → and_then w f ≡ Ok r → (q : ℕ) × (w ≡ Ok q) × (f q ≡ Ok r)
+through (Ok q) f r h = (q, refl, h)
+through (Err b) f r h = cc
 
-pub faulty : (w : Walked) (f : ℕ → Walked) (a : ℕ) → and_then w f ≡ FaultAt a → (w ≡ FaultAt a) ⊎ ((q : ℕ) × (w ≡ Read q) × (f q ≡ FaultAt a))
-faulty (Read q) f a h = inr (q, refl, h)
-faulty (FaultAt b) f a h = inl h
+pub faulty : (w : Walked) (f : ℕ → Walked) (a : ℕ) → and_then w f ≡ fault a → (w ≡ fault a) ⊎ ((q : ℕ) × (w ≡ Ok q) × (f q ≡ fault a))
+faulty (Ok q) f a h = inr (q, refl, h)
+faulty (Err b) f a h = inl h
 
 -- the list that a walk from a spot meets, and that from a head
 abbrev pub meets : (Spot → ℕ) → (m left : ℕ) → Spot → List ℕ
@@ -42,7 +41,7 @@ list_at lk m a = meets lk m m (Head a)
 module _ (lk : Spot → ℕ) (node : ℕ → ℕ) (m : ℕ) (small : m ≤ END) where
   -- a walk along a list of a's own reads it to its end
   pub reads : (a left : ℕ) (s : Spot) (rows : ℕ) (xs : List ℕ) → Own lk node m a s xs → length xs ≤ left
-      → walked lk node m a left s rows ≡ Read (rows + length xs)
+      → walked lk node m a left s rows ≡ Ok (rows + length xs)
   reads a zero s rows [] o l = rw add-zero (at_end lk node m a s rows o.chain zero refl)
   reads a zero s rows (x ∷ xs) o l = absurd (not-suc-le-zero l)
   reads a (suc left) s rows [] o l = rw add-zero (at_end lk node m a s rows o.chain (suc left) refl)
@@ -53,7 +52,7 @@ module _ (lk : Spot → ℕ) (node : ℕ → ℕ) (m : ℕ) (small : m ≤ END) 
       on lk node m a s rows c.0 left (omega arith) c.1 (o.own x (inl refl)) ∙ rw z at r
 
   -- a walk that comes to the end has met a list of a's own
-  pub met : (a left : ℕ) (s : Spot) (rows r : ℕ) → walked lk node m a left s rows ≡ Read r
+  pub met : (a left : ℕ) (s : Spot) (rows r : ℕ) → walked lk node m a left s rows ≡ Ok r
       → Own lk node m a s (meets lk m left s) × (r ≡ rows + length (meets lk m left s))
   unfolding walk
   met a zero s rows r h =
@@ -84,20 +83,20 @@ module _ (lk : Spot → ℕ) (node : ℕ → ℕ) (m : ℕ) (small : m ≤ END) 
       ]
 
   -- the same from a head, whatever was read before
-  pub node-met : (a rows r : ℕ) → node_walked lk node m a rows ≡ Read r → Own lk node m a (Head a) (list_at lk m a) × (r ≡ rows + length (list_at lk m a))
+  pub node-met : (a rows r : ℕ) → node_walked lk node m a rows ≡ Ok r → Own lk node m a (Head a) (list_at lk m a) × (r ≡ rows + length (list_at lk m a))
   node-met a rows r h =
       let w = met a (m - rows) (Head a) rows r h in
       let e : list_at lk m a ≡ meets lk m (m - rows) (Head a) = chain_walked lk m small (Head a) (meets lk m (m - rows) (Head a)) w.0.chain in
       rw e w
 
-  pub up_to-reads : (n : ℕ) (ls : ℕ → List ℕ) → ((a : ℕ) → a < n → Own lk node m a (Head a) (ls a)) → up_to lk node m n ≡ Read (total n ls)
+  pub up_to-reads : (n : ℕ) (ls : ℕ → List ℕ) → ((a : ℕ) → a < n → Own lk node m a (Head a) (ls a)) → up_to lk node m n ≡ Ok (total n ls)
   unfolding up_to
   up_to-reads zero ls o = refl
   up_to-reads (suc n) ls o =
       let t = at_most (suc n) m lk node ls small (λ a l. (o a l).chain) (λ a l. (o a l).own) in
       rw (up_to-reads n ls (λ a h. o a (omega arith))) (reads n (m - total n ls) (Head n) (total n ls) (ls n) (o n (omega arith)) (omega arith))
 
-  pub up_to-met : (n r : ℕ) → up_to lk node m n ≡ Read r → ((a : ℕ) → a < n → Own lk node m a (Head a) (list_at lk m a)) × (r ≡ total n (list_at lk m))
+  pub up_to-met : (n r : ℕ) → up_to lk node m n ≡ Ok r → ((a : ℕ) → a < n → Own lk node m a (Head a) (list_at lk m a)) × (r ≡ total n (list_at lk m))
   unfolding up_to
   up_to-met zero r h = ((λ a l. absurd (omega arith)), cc)
   up_to-met (suc n) r h =
@@ -110,22 +109,22 @@ module _ (lk : Spot → ℕ) (node : ℕ → ℕ) (m : ℕ) (small : m ≤ END) 
 
   module _ (n : ℕ) where
     -- the lists are sound: m rows are read
-    pub way-reads : (ls : ℕ → List ℕ) → Lists n m lk node ls → one_way lk node n m ≡ Read m
+    pub way-reads : (ls : ℕ → List ℕ) → Lists n m lk node ls → one_way lk node n m ≡ Ok m
     unfolding one_way
     way-reads ls L =
         let t : total n ls ≡ m = counted n m lk node ls small L.chain L.own (λ x l. (L.has_end x l, L.listed x l)) in
         rw (up_to-reads n ls (λ a h. record { chain = L.chain a h; own = L.own a h }), t, eq-eqb m m refl)
 
     -- and the other way round
-    pub way-met : (r : ℕ) → one_way lk node n m ≡ Read r → Lists n m lk node (list_at lk m) × (r ≡ m)
+    pub way-met : (r : ℕ) → one_way lk node n m ≡ Ok r → Lists n m lk node (list_at lk m) × (r ≡ m)
     unfolding one_way
     way-met r h =
-        let t = through (up_to lk node m n) (λ rows. cond (eqb rows m) (Read rows) (FaultAt n)) r h in
+        let t = through (up_to lk node m n) (λ rows. cond (eqb rows m) (Ok rows) (fault n)) r h in
         let i = up_to-met n t.0 t.1 in
         elim (ℕ_discrete t.0 m) [
-          | no q ↦ absurd (let e : FaultAt n ≡ Read r = rw (ne_eqb t.0 m q) at t.2 in let z : ◌≡◌ {A = ℕ} 0 1 = cc in omega arith)
+          | no q ↦ absurd (let e : fault n ≡ Ok r = rw (ne_eqb t.0 m q) at t.2 in let z : ◌≡◌ {A = ℕ} 0 1 = cc in omega arith)
           | yes q ↦
-              (let e : Read t.0 ≡ Read r = rw (eq-eqb t.0 m q) at t.2 in
+              (let e : Ok t.0 ≡ Ok r = rw (eq-eqb t.0 m q) at t.2 in
               let z : t.0 ≡ r = cc in
               let f = full n m lk node (list_at lk m) small (λ a l. (i.0 a l).chain) (λ a l. (i.0 a l).own) (sym i.1 ∙ q) in (
                 record {
@@ -139,5 +138,5 @@ module _ (lk : Spot → ℕ) (node : ℕ → ℕ) (m : ℕ) (small : m ≤ END) 
         ]
 
 -- the rows of one direction, as the code reads them, are m
-pub way-rows : (lk : Spot → ℕ) (node : ℕ → ℕ) (n m : ℕ) (w : Walked) (r : ℕ) → m ≤ END → w ≡ one_way lk node n m → w ≡ Read r → r ≡ m
+pub way-rows : (lk : Spot → ℕ) (node : ℕ → ℕ) (n m : ℕ) (w : Walked) (r : ℕ) → m ≤ END → w ≡ one_way lk node n m → w ≡ Ok r → r ≡ m
 way-rows lk node n m w r small h e = (way-met lk node m small n r (sym h ∙ e)).1

@@ -9,19 +9,25 @@ use native.Mathlib.Omega.{arith}
 use borrow.Author.Tests.{eq-eqb, ne_eqb}
 use lib.Dec.{eqb}
 use lib.ListN.{length}
+use Rattle.std.specs.Prelude.{Ok, Err}
+use Rattle.index.specs.declared.NodeIndex.{NodeIndex}
 use Rattle.index.specs.Index.{END}
 use Rattle.lists.specs.declared.Spot.{Spot}
 use Rattle.lists.specs.declared.Spot.TheVariants.{Head, After}
 use Rattle.lists.specs.Chain.{In}
 use Rattle.lists.proofs.Chains.{chain_walked}
-use Rattle.sound.specs.declared.Walked.{Walked}
-use Rattle.sound.specs.declared.Walked.TheVariants.{Read, FaultAt}
 use Rattle.sound.specs.Sound.{Lists}
-use Rattle.sound.specs.Check.{walked, node_walked, up_to, one_way}
+use Rattle.sound.specs.Check.{Walked, fault, walked, node_walked, up_to, one_way}
 use Rattle.sound.specs.Answer.{Own, FirstFault}
 use Rattle.sound.proofs.Walks.{at_end, spent, past, strange, on}
 use Rattle.sound.proofs.Listings.{all, at_most, dec_in, in_all, of_all, counted}
 use Rattle.sound.proofs.Exact.{faulty, list_at, reads, up_to-met, way-met}
+
+-- one fault is at one node
+same_node : {a b : ℕ} → fault a ≡ fault b → a ≡ b
+same_node {a} {b} h =
+    let e : ◌≡◌ {A = NodeIndex} (record { 0 = a }) (record { 0 = b }) = cc in
+    ap (λ (x : NodeIndex). x.0) e
 
 -- every number below m is in the list, or one is not
 gap : (m : ℕ) (xs : List ℕ) → ((x : ℕ) → x < m → In x xs) ⊎ ((x : ℕ) × (x < m) × (In x xs → ⊥))
@@ -38,28 +44,28 @@ gap (suc m) xs =
 
 module _ (lk : Spot → ℕ) (node : ℕ → ℕ) (m : ℕ) (small : m ≤ END) where
   -- a walk's fault is at its own node
-  fault_at : (a left : ℕ) (s : Spot) (rows b : ℕ) → walked lk node m a left s rows ≡ FaultAt b → b ≡ a
+  fault_at : (a left : ℕ) (s : Spot) (rows b : ℕ) → walked lk node m a left s rows ≡ fault b → b ≡ a
   fault_at a zero s rows b h =
       elim (ℕ_discrete (lk s) END) [
         | yes q ↦ absurd (let z : ◌≡◌ {A = ℕ} 0 1 = cc (at_end lk node m a s rows refl zero q) in omega arith)
-        | no q ↦ cc (spent lk node m a s rows refl zero q refl)
+        | no q ↦ same_node (sym h ∙ spent lk node m a s rows refl zero q refl)
       ]
   fault_at a (suc left) s rows b h =
       elim (ℕ_discrete (lk s) END) [
         | yes q ↦ absurd (let z : ◌≡◌ {A = ℕ} 0 1 = cc (at_end lk node m a s rows refl (suc left) q) in omega arith)
         | no q ↦
             elim (dec_lt (lk s) m) [
-              | no p ↦ cc (past lk node m a s rows refl (suc left) q (omega arith))
+              | no p ↦ same_node (sym h ∙ past lk node m a s rows refl (suc left) q (omega arith))
               | yes p ↦
                   elim (ℕ_discrete (node (lk s)) a) [
-                    | no o ↦ cc (strange lk node m a s rows refl (suc left) q o)
+                    | no o ↦ same_node (sym h ∙ strange lk node m a s rows refl (suc left) q o)
                     | yes o ↦ fault_at a left (After (lk s)) (rows + 1) b (sym (on lk node m a s rows refl left q p o) ∙ h)
                   ]
             ]
       ]
 
   -- the rows read before leave room for a list of a's own, so after a fault there is none
-  no_list : (a rows b : ℕ) → up_to lk node m a ≡ Read rows → node_walked lk node m a rows ≡ FaultAt b → (xs : List ℕ) → Own lk node m a (Head a) xs → ⊥
+  no_list : (a rows b : ℕ) → up_to lk node m a ≡ Ok rows → node_walked lk node m a rows ≡ fault b → (xs : List ℕ) → Own lk node m a (Head a) xs → ⊥
   no_list a rows b u h xs o =
       let i = up_to-met lk node m small a rows u in
       let e : list_at lk m a ≡ xs = chain_walked lk m small (Head a) xs o.chain in
@@ -70,7 +76,7 @@ module _ (lk : Spot → ℕ) (node : ℕ → ℕ) (m : ℕ) (small : m ≤ END) 
       let z : ◌≡◌ {A = ℕ} 0 1 = cc (reads lk node m small a (m - rows) (Head a) rows xs o f) in
       omega arith
 
-  up_to_fault : (n b : ℕ) → up_to lk node m n ≡ FaultAt b
+  up_to_fault : (n b : ℕ) → up_to lk node m n ≡ fault b
       → (b < n) × ((c : ℕ) → c < b → (xs : List ℕ) × Own lk node m c (Head c) xs) × ((xs : List ℕ) → Own lk node m b (Head b) xs → ⊥)
   unfolding up_to
   up_to_fault zero b h = absurd (let z : ◌≡◌ {A = ℕ} 0 1 = cc in omega arith)
@@ -84,7 +90,7 @@ module _ (lk : Spot → ℕ) (node : ℕ → ℕ) (m : ℕ) (small : m ≤ END) 
       ]
 
   -- all lists are there, and have not m rows: some edge is in none
-  unlisted : (n r : ℕ) → up_to lk node m n ≡ Read r → (r ≡ m → ⊥)
+  unlisted : (n r : ℕ) → up_to lk node m n ≡ Ok r → (r ≡ m → ⊥)
       → (x : ℕ) × (x < m) × ((b : ℕ) → b < n → (xs : List ℕ) → Own lk node m b (Head b) xs → In x xs → ⊥)
   unlisted n r u d =
       let i = up_to-met lk node m small n r u in
@@ -108,19 +114,19 @@ module _ (lk : Spot → ℕ) (node : ℕ → ℕ) (m : ℕ) (small : m ≤ END) 
       ]
 
   module _ (n : ℕ) where
-    pub way-first : (a : ℕ) → one_way lk node n m ≡ FaultAt a → FirstFault lk node n m a
+    pub way-first : (a : ℕ) → one_way lk node n m ≡ fault a → FirstFault lk node n m a
     unfolding one_way
     way-first a h =
-        elim (faulty (up_to lk node m n) (λ rows. cond (eqb rows m) (Read rows) (FaultAt n)) a h) [
+        elim (faulty (up_to lk node m n) (λ rows. cond (eqb rows m) (Ok rows) (fault n)) a h) [
           | inl u ↦
               (let f = up_to_fault n a u in
               record { inside = omega arith; before = f.1; here = λ l. f.2; missing = λ e. absurd (omega arith) })
           | inr t ↦
               elim (ℕ_discrete t.0 m) [
-                | yes q ↦ absurd (let e : Read t.0 ≡ FaultAt a = rw (eq-eqb t.0 m q) at t.2 in let z : ◌≡◌ {A = ℕ} 0 1 = cc in omega arith)
+                | yes q ↦ absurd (let e : Ok t.0 ≡ fault a = rw (eq-eqb t.0 m q) at t.2 in let z : ◌≡◌ {A = ℕ} 0 1 = cc in omega arith)
                 | no q ↦
-                    (let e : FaultAt n ≡ FaultAt a = rw (ne_eqb t.0 m q) at t.2 in
-                    let z : a ≡ n = cc in
+                    (let e : fault n ≡ fault a = rw (ne_eqb t.0 m q) at t.2 in
+                    let z : a ≡ n = same_node (sym e) in
                     let i = (up_to-met lk node m small n t.0 t.1).0 in
                     record {
                       inside = omega arith;
@@ -148,18 +154,19 @@ module _ (lk : Spot → ℕ) (node : ℕ → ℕ) (m : ℕ) (small : m ≤ END) 
               g.2 (node x) b (ls (node x)) (record { chain = L.chain (node x) b; own = L.own (node x) b }) (L.listed x g.1))
         ]
 
-    pub first_way : (a : ℕ) → FirstFault lk node n m a → one_way lk node n m ≡ FaultAt a
+    pub first_way : (a : ℕ) → FirstFault lk node n m a → one_way lk node n m ≡ fault a
     first_way a f = go (one_way lk node n m) refl
       where
-        go : (w : Walked) → one_way lk node n m ≡ w → one_way lk node n m ≡ FaultAt a
-        go (Read r) h = absurd (not_both a (list_at lk m) f (way-met lk node m small n r h).0)
-        go (FaultAt b) h =
+        go : (w : Walked) → one_way lk node n m ≡ w → one_way lk node n m ≡ fault a
+        go (Ok r) h = absurd (not_both a (list_at lk m) f (way-met lk node m small n r h).0)
+        go (Err y) h =
+            let b = y.0 in
             let g = way-first b h in
             elim (dec_lt a b) [
               | yes l ↦ absurd (earlier a b f g l)
               | no p ↦
                   elim (dec_lt b a) [
                     | yes l ↦ absurd (earlier b a g f l)
-                    | no q ↦ (let e : b ≡ a = omega arith in h ∙ ap FaultAt e)
+                    | no q ↦ (let e : b ≡ a = omega arith in h ∙ ap fault e)
                   ]
             ]

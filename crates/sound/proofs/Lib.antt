@@ -9,3 +9,4 @@ pub mod Told
 pub mod Cases
 pub mod Direction
 pub mod Kept
+pub mod Directions

@@ -1,5 +1,5 @@
 -- The check's answer in words, with no walk in it.
-use Rattle.std.specs.Prelude.{ℕ, ◌*◌, ◌≤◌, ◌<◌, ◌≡◌, true, false, List}
+use Rattle.std.specs.Prelude.{ℕ, ◌*◌, ◌≤◌, ◌<◌, ◌≡◌, true, false, List, Ok, Err}
 use Rattle.index.specs.declared.EdgeDirection.TheVariants.{Outgoing, Incoming}
 use Rattle.index.specs.declared.Refusal.TheVariants.{Tables}
 use Rattle.tables.specs.Net.{Net, fits}
@@ -7,9 +7,9 @@ use Rattle.lists.specs.declared.Spot.{Spot}
 use Rattle.lists.specs.declared.Spot.TheVariants.{Head}
 use Rattle.lists.specs.Chain.{Chain, In}
 use Rattle.lists.specs.Walk.{link_at}
-use Rattle.sound.specs.declared.Checked.{Checked}
-use Rattle.sound.specs.declared.Checked.TheVariants as Checked·
+use Rattle.sound.specs.declared.Fault.TheVariants.{At, Refused}
 use Rattle.sound.specs.Sound.{end_at, Sound, Lists}
+use Rattle.sound.specs.Check.{Checked}
 
 -- the links from spot s on lead through the edges xs to `END`, and each of them has node a at its end
 pub record Own (lk : Spot → ℕ) (node : ℕ → ℕ) (m a : ℕ) (s : Spot) (xs : List ℕ) : Type 0 where
@@ -33,7 +33,7 @@ OutgoingSound g = (ls : ℕ → List ℕ) × Lists g.n g.m (link_at g 0) (end_at
 
 -- the answer that is right: 2 m rows of a sound network; else the first fault, outgoing before incoming; or columns that do not fit
 unfoldable pub Answers : Net → Checked → Type 0
-Answers g (Checked·.Accepted rows) = (fits g ≡ true) × (rows ≡ 2 * g.m) × ((ls : ℕ → ℕ → List ℕ) × Sound g ls)
-Answers g (Checked·.Fault Outgoing a) = (fits g ≡ true) × FaultIn g 0 a.0
-Answers g (Checked·.Fault Incoming a) = (fits g ≡ true) × OutgoingSound g × FaultIn g 1 a.0
-Answers g (Checked·.Refused why) = (fits g ≡ false) × (why ≡ Tables)
+Answers g (Ok rows) = (fits g ≡ true) × (rows ≡ 2 * g.m) × ((ls : ℕ → ℕ → List ℕ) × Sound g ls)
+Answers g (Err (At Outgoing a)) = (fits g ≡ true) × FaultIn g 0 a.0
+Answers g (Err (At Incoming a)) = (fits g ≡ true) × OutgoingSound g × FaultIn g 1 a.0
+Answers g (Err (Refused why)) = (fits g ≡ false) × (why ≡ Tables)

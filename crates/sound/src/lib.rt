@@ -2,50 +2,34 @@
 #![tactic(auto)]
 
 ghost use Rattle.std.specs.Prelude.{◌≡◌};
-ghost use Rattle.tables.specs.Net.{entering};
+ghost use Rattle.tables.specs.Net.{net_of};
 ghost use Rattle.sound.specs.Check.{checked};
 
 use index::{EdgeDirection, NodeIndex, Refusal};
 use parts::walk_lists;
-use tables::parts::{INCOMING, OUTGOING, fits};
+use tables::Network;
 
 pub mod parts;
 
-// The rows read of one direction's lists; or the first node with a fault, n where some edge is in no list.
+// Why a network is not accepted: direction and node of its first fault, node n where some edge is in no list, answer 6; or the
+// columns do not fit.
 #[derive(Clone, Copy)]
-pub enum Walked {
-    Read(u32),
-    FaultAt(u32),
-}
-
-// The rows read of a sound network; or direction and node of the first fault, answer 6.
-#[derive(Clone, Copy)]
-pub enum Checked {
-    Accepted(u32),
-    Fault(EdgeDirection, NodeIndex),
+pub enum Fault {
+    At(EdgeDirection, NodeIndex),
     Refused(Refusal),
 }
 
-// The outgoing lists in node order, then the incoming ones: at most m rows of each direction are read.
-pub fn check(
-    weights: &[i32],
-    heads: &[u32],
-    registers: &[u32],
-    links: &[u32],
-    ends: &[u32],
-    n: u32,
-    m: u32,
-) -> Checked
-    ensures { result ≡ checked (entering weights.now heads.now registers.now links.now ends.now n m) }
+// The rows read of a sound network: the outgoing lists in node order, then the incoming ones, at most m rows of each direction.
+pub fn check(net: Network) -> Result<u32, Fault>
+    ensures { result ≡ checked (net_of net.entry) }
 {
-    if !fits(weights, heads, registers, links, ends, n, m) {
-        return Checked::Refused(Refusal::Tables);
+    if !net.fits() {
+        return Err(Fault::Refused(Refusal::Tables));
     }
-    match walk_lists(heads, links, ends, n, m, OUTGOING) {
-        Walked::FaultAt(a) => Checked::Fault(EdgeDirection::Outgoing, NodeIndex(a)),
-        Walked::Read(q) => match walk_lists(heads, links, ends, n, m, INCOMING) {
-            Walked::FaultAt(a) => Checked::Fault(EdgeDirection::Incoming, NodeIndex(a)),
-            Walked::Read(r) => Checked::Accepted(q + r),
-        },
+    let mut rows = 0;
+    for d in EdgeDirection::ALL {
+        let walked = walk_lists(net.heads, net.links, net.ends, net.n, net.m, d.number());
+        rows += walked.map_err(|a| Fault::At(d, a))?;
     }
+    Ok(rows)
 }

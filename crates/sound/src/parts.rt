@@ -4,12 +4,11 @@ ghost use Rattle.lists.specs.Walk.{cell, link_in};
 ghost use Rattle.sound.specs.Check.{node_walked, one_way};
 ghost use Rattle.sound.specs.Parts.{Held, Begins};
 
-use crate::Walked;
 use index::{EdgeIndex, NodeIndex};
 use tables::parts::{EDGE_CELLS, NODE_CELLS};
 
-// Node a's list in direction k, with `read` rows of that direction read before it. The count runs on through all lists of a
-// direction: sound lists have m rows together, so after m rows there is nothing but `END`.
+// Node a's list in direction k, with `read` rows of that direction read before it: the rows read then, or a, where it has a fault.
+// The count runs on through all lists of a direction: sound lists have m rows together, so after m rows there is nothing but `END`.
 pub fn walk_list(
     heads: &[u32],
     links: &[u32],
@@ -18,50 +17,49 @@ pub fn walk_list(
     k: usize,
     a: NodeIndex,
     read: u32,
-) -> Walked
+) -> Result<u32, NodeIndex>
     requires { Begins (length heads.now) (length links.now) (length ends.now) m k a.0 read }
     ensures { result ≡ node_walked (link_in heads.now links.now k) (cell ends.now k) m a.0 read }
 {
-    let mut e = heads[NODE_CELLS * a.index() + k];
+    let mut e = EdgeIndex(heads[NODE_CELLS * a.index() + k]);
     let mut rows = read;
-    while e < m {
+    while e.0 < m {
         if rows == m {
-            return Walked::FaultAt(a.0);
+            return Err(a);
         }
-        let row = EDGE_CELLS * EdgeIndex(e).index();
-        if ends[row + k] != a.0 {
-            return Walked::FaultAt(a.0);
+        let row = EDGE_CELLS * e.index();
+        if NodeIndex(ends[row + k]) != a {
+            return Err(a);
         }
-        e = links[row + k];
+        e = EdgeIndex(links[row + k]);
         rows += 1;
     }
-    if e != EdgeIndex::END.0 {
-        return Walked::FaultAt(a.0);
+    if e != EdgeIndex::END {
+        return Err(a);
     }
-    Walked::Read(rows)
+    Ok(rows)
 }
 
-// The lists of direction k in node order; they have every edge where they have m rows.
-pub fn walk_lists(heads: &[u32], links: &[u32], ends: &[u32], n: u32, m: u32, k: usize) -> Walked
+// The lists of direction k in node order: the rows read, or the first node with a fault, n where some edge is in no list. They have
+// every edge where they have m rows.
+pub fn walk_lists(
+    heads: &[u32],
+    links: &[u32],
+    ends: &[u32],
+    n: u32,
+    m: u32,
+    k: usize,
+) -> Result<u32, NodeIndex>
     requires { Held (length heads.now) (length links.now) (length ends.now) n m k }
     ensures { result ≡ one_way (link_in heads.now links.now k) (cell ends.now k) n m }
 {
     let mut rows = 0;
-    let mut a = 0;
-    while a < n {
-        match walk_list(heads, links, ends, m, k, NodeIndex(a), rows) {
-            Walked::Read(r) => {
-                rows = r;
-            }
-            Walked::FaultAt(b) => {
-                return Walked::FaultAt(b);
-            }
-        }
-        a += 1;
+    for a in 0..n {
+        rows = walk_list(heads, links, ends, m, k, NodeIndex(a), rows)?;
     }
     if rows == m {
-        Walked::Read(rows)
+        Ok(rows)
     } else {
-        Walked::FaultAt(n)
+        Err(NodeIndex(n))
     }
 }

@@ -1,50 +1,52 @@
-use Rattle.std.proofs.Common.{◌≡◌, ℕ, true, refl, arith}
-use Rattle.index.specs.declared.EdgeDirection.TheVariants.{Outgoing}
-use Rattle.tables.specs.Net.{Net, fits}
+use Rattle.std.proofs.Common.{◌<◌, ◌≤◌, refl, rules, arith}
+use Rattle.std.proofs.lemmas.Result.{err_from_is_err_and}
+use Rattle.index.specs.Index.{END}
+use Rattle.index.proofs.Laws.{number-below}
 use Rattle.tables.proofs.Guards.{guards}
 use Rattle.tables.proofs.Laws.{fitting, fitted}
-use Rattle.sound.specs.declared.Walked.{Walked}
-use Rattle.sound.specs.declared.Walked.TheVariants.{FaultAt}
-use Rattle.sound.specs.declared.Checked.TheVariants.{Fault}
-use Rattle.sound.specs.Check.{way, verdict, checked}
-use Rattle.sound.proofs.Exact.{way-rows}
+use Rattle.sound.specs.Check.{checked}
+use Rattle.sound.proofs.Directions.{direction, told_at, at_fault, goes_on, all_read, few, no_more}
 use Rattle.sound.proofs.check.Goals as goal
-
--- past the first test it is told by what the outgoing lists gave, and the incoming ones
-told : (g : Net) (v w : Walked) → fits g ≡ true → v ≡ way g 0 → w ≡ way g 1 → verdict v w ≡ checked g
-unfolding checked
-told g v w f p q = rw (p, q, f)
-
--- where the outgoing lists have a fault the incoming ones do not count
-fault_told : (g : Net) (a : ℕ) → fits g ≡ true → FaultAt a ≡ way g 0 → Fault Outgoing (record { 0 = a }) ≡ checked g
-fault_told g a f p = told g (FaultAt a) (way g 1) f p refl
 
 pub returns-then-not-fits : goal.returns-then-not-fits
 unfolding checked
 returns-then-not-fits c = search guards depth 9
 
+pub loop-d-init : goal.loop-d-init
+loop-d-init c = refl
+
 pub walk_lists-requires : goal.walk_lists-requires
 walk_lists-requires c =
     let f = fitting c.fits.ensures c.if-not-fits.false in
-    record { heads_hold = omega arith; edges = record { links_hold = omega arith; ends_hold = omega arith; direction = omega arith } }
+    record { heads_hold = omega arith; edges = record { links_hold = omega arith; ends_hold = omega arith; direction = rw c.number.ensures (number-below _) } }
 
-pub walk_lists-requires-in-Read : goal.walk_lists-requires-in-Read
-walk_lists-requires-in-Read c =
-    let f = fitting c.fits.ensures c.if-not-fits.false in
-    record { heads_hold = omega arith; edges = record { links_hold = omega arith; ends_hold = omega arith; direction = omega arith } }
+pub returns-in_err-rows : goal.returns-in_err-rows
+returns-in_err-rows c =
+    let f = fitted c.fits.ensures c.if-not-fits.false in
+    let l : c.loop-d.d-index < 2 = omega arith in
+    let p = err_from_is_err_and c.from_residual.result c.from_residual.ensures.1 in
+    let m = told_at (direction c.loop-d.d-index) c.walk_lists.result c.map_err.result _ c.map_err.ensures.cases in
+    let t = m (λ a y k. search rules) in
+    rw (p.1, p.2) (at_fault _ f _ _ _ _ _ _ l c.loop-d.invariant c.number.ensures c.walk_lists.ensures t c.in_err-rows.was)
 
-pub overflow_add-result : goal.overflow_add-result
-overflow_add-result c =
+pub overflow_add-rows : goal.overflow_add-rows
+overflow_add-rows c =
     let f = fitting c.fits.ensures c.if-not-fits.false in
-    let out_rows = way-rows _ _ _ _ _ _ (omega arith) c.in-Read.ensures refl in
-    let in_rows = way-rows _ _ _ _ _ _ (omega arith) c.in-Read-walk_lists.ensures refl in
+    let h = fitted c.fits.ensures c.if-not-fits.false in
+    let small : c.args.net.m ≤ END = omega arith in
+    let r = few _ h small _ _ (omega arith) c.loop-d.invariant in
+    let m = told_at (direction c.loop-d.d-index) c.walk_lists.result c.map_err.result _ c.map_err.ensures.cases in
+    let t = m (λ a y k. search rules) in
+    let q = no_more _ h small _ _ _ _ _ c.walk_lists.ensures t c.in_ok-rows.was in
     omega arith
 
-pub returns-in-FaultAt : goal.returns-in-FaultAt
-returns-in-FaultAt c = fault_told _ _ (fitted c.fits.ensures c.if-not-fits.false) c.in-FaultAt.ensures
+pub loop-d-preserved : goal.loop-d-preserved
+loop-d-preserved c =
+    let f = fitted c.fits.ensures c.if-not-fits.false in
+    let l : c.loop-d.d-index < 2 = omega arith in
+    let m = told_at (direction c.loop-d.d-index) c.walk_lists.result c.map_err.result _ c.map_err.ensures.cases in
+    let t = m (λ a y k. search rules) in
+    goes_on _ f _ _ _ _ _ _ l c.loop-d.invariant c.number.ensures c.walk_lists.ensures t c.in_ok-rows.was
 
-pub returns-in-FaultAt-walk_lists : goal.returns-in-FaultAt-walk_lists
-returns-in-FaultAt-walk_lists c = told _ _ _ (fitted c.fits.ensures c.if-not-fits.false) c.in-Read.ensures c.in-FaultAt-walk_lists.ensures
-
-pub returns-in-Read-walk_lists : goal.returns-in-Read-walk_lists
-returns-in-Read-walk_lists c = told _ _ _ (fitted c.fits.ensures c.if-not-fits.false) c.in-Read.ensures c.in-Read-walk_lists.ensures
+pub returns : goal.returns
+returns c = all_read _ (fitted c.fits.ensures c.if-not-fits.false) _ _ (omega arith) c.loop-d.invariant

@@ -1,6 +1,6 @@
 use Rattle.std.proofs.Common.{◌∙◌, refl, sym, arith}
 use Rattle.lists.specs.declared.Spot.TheVariants.{Head, After}
-use Rattle.sound.proofs.Walks.{no_end, at_end, spent, past, strange, further}
+use Rattle.sound.proofs.Walks.{no_end, at_end, spent, past, strange, further, differs, equals}
 use Rattle.sound.proofs.parts.walk_list.Goals as goal
 
 pub loop-e-init : goal.loop-e-init
@@ -12,11 +12,11 @@ returns-then-rows-m c =
     let h = no_end c.ranges.m.fits c.loop-e-test.true in
     sym (spent _ _ _ _ _ _ i.stands _ h (omega arith)) ∙ i.same
 
-pub returns-then-ends-row : goal.returns-then-ends-row
-returns-then-ends-row c =
+pub returns-then-ne : goal.returns-then-ne
+returns-then-ne c =
     let i = c.loop-e.invariant in
     let h = no_end c.ranges.m.fits c.loop-e-test.true in
-    sym (strange _ _ _ _ _ _ i.stands _ h (rw c.index-row.ensures at c.if-ends-row.true)) ∙ i.same
+    sym (strange _ _ _ _ _ _ i.stands _ h (differs (rw c.index-row.ensures at c.ne.ensures) c.if-ne.true)) ∙ i.same
 
 pub loop-e-preserved : goal.loop-e-preserved
 loop-e-preserved c =
@@ -29,16 +29,16 @@ loop-e-preserved c =
       most = omega arith;
       spot = After _;
       stands = refl;
-      same = sym (further _ _ _ _ _ _ i.stands h i.most c.if-rows-m.false l (rw q at c.if-ends-row.false)) ∙ i.same;
+      same = sym (further _ _ _ _ _ _ i.stands h i.most c.if-rows-m.false l (equals (rw q at c.ne.ensures) c.if-ne.false)) ∙ i.same;
     }
     )
 
-pub returns-then-e : goal.returns-then-e
-returns-then-e c =
+pub returns-then-ne-2 : goal.returns-then-ne-2
+returns-then-ne-2 c =
     let i = c.loop-e.invariant in
-    sym (past _ _ _ _ _ _ i.stands _ c.if-e.true c.loop-e-test.false) ∙ i.same
+    sym (past _ _ _ _ _ _ i.stands _ (differs c.ne-2.ensures c.if-ne-2.true) c.loop-e-test.false) ∙ i.same
 
 pub returns : goal.returns
 returns c =
     let i = c.loop-e.invariant in
-    sym (at_end _ _ _ _ _ _ i.stands _ c.if-e.false) ∙ i.same
+    sym (at_end _ _ _ _ _ _ i.stands _ (equals c.ne-2.ensures c.if-ne-2.false)) ∙ i.same

@@ -9,7 +9,7 @@ abbrev pub invariant-loop-e : goal.invariant-loop-e
 invariant-loop-e l = record {
   most : l.rows ≤ l.m;
   spot : Spot;
-  stands : link_in l.heads l.links l.k spot ≡ l.e;
+  stands : link_in l.heads l.links l.k spot ≡ l.e.0;
   same : walked (link_in l.heads l.links l.k) (cell l.ends l.k) l.m l.a.0 (l.m - l.rows) spot l.rows ≡ node_walked (link_in l.heads l.links l.k) (cell l.ends l.k) l.m l.a.0 l.read;
 }
 
