@@ -9,4 +9,4 @@ pub mod Told
 pub mod Cases
 pub mod Direction
 pub mod Kept
-pub mod Directions
+pub mod Verdicts

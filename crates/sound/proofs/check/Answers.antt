@@ -5,7 +5,7 @@ use Rattle.index.proofs.Laws.{number-below}
 use Rattle.tables.proofs.Guards.{guards}
 use Rattle.tables.proofs.Laws.{fitting, fitted}
 use Rattle.sound.specs.Check.{checked}
-use Rattle.sound.proofs.Directions.{direction, told_at, at_fault, goes_on, all_read, few, no_more}
+use Rattle.sound.proofs.Verdicts.{direction_at, told_at, way_faulty, way_sound, ways_read, rows_most, walk_rows}
 use Rattle.sound.proofs.check.Goals as goal
 
 pub returns-then-not-fits : goal.returns-then-not-fits
@@ -15,8 +15,8 @@ returns-then-not-fits c = search guards depth 9
 pub loop-d-init : goal.loop-d-init
 loop-d-init c = refl
 
-pub walk_lists-requires : goal.walk_lists-requires
-walk_lists-requires c =
+pub walk_lists-walked-requires : goal.walk_lists-walked-requires
+walk_lists-walked-requires c =
     let f = fitting c.fits.ensures c.if-not-fits.false in
     record { heads_hold = omega arith; edges = record { links_hold = omega arith; ends_hold = omega arith; direction = rw c.number.ensures (number-below _) } }
 
@@ -25,28 +25,28 @@ returns-in_err-rows c =
     let f = fitted c.fits.ensures c.if-not-fits.false in
     let l : c.loop-d.d-index < 2 = omega arith in
     let p = err_from_is_err_and c.from_residual.result c.from_residual.ensures.1 in
-    let m = told_at (direction c.loop-d.d-index) c.walk_lists.result c.map_err.result _ c.map_err.ensures.cases in
+    let m = told_at (direction_at c.loop-d.d-index) c.walk_lists-walked.result c.map_err.result _ c.map_err.ensures.cases in
     let t = m (λ a y k. search rules) in
-    rw (p.1, p.2) (at_fault _ f _ _ _ _ _ _ l c.loop-d.invariant c.number.ensures c.walk_lists.ensures t c.in_err-rows.was)
+    rw (p.1, p.2) (way_faulty _ f _ _ _ _ _ _ l c.loop-d.invariant c.number.ensures c.walk_lists-walked.ensures t c.in_err-rows.was)
 
 pub overflow_add-rows : goal.overflow_add-rows
 overflow_add-rows c =
     let f = fitting c.fits.ensures c.if-not-fits.false in
     let h = fitted c.fits.ensures c.if-not-fits.false in
     let small : c.args.net.m ≤ END = omega arith in
-    let r = few _ h small _ _ (omega arith) c.loop-d.invariant in
-    let m = told_at (direction c.loop-d.d-index) c.walk_lists.result c.map_err.result _ c.map_err.ensures.cases in
+    let r = rows_most _ h small _ _ (omega arith) c.loop-d.invariant in
+    let m = told_at (direction_at c.loop-d.d-index) c.walk_lists-walked.result c.map_err.result _ c.map_err.ensures.cases in
     let t = m (λ a y k. search rules) in
-    let q = no_more _ h small _ _ _ _ _ c.walk_lists.ensures t c.in_ok-rows.was in
+    let q = walk_rows _ h small _ _ _ _ _ c.walk_lists-walked.ensures t c.in_ok-rows.was in
     omega arith
 
 pub loop-d-preserved : goal.loop-d-preserved
 loop-d-preserved c =
     let f = fitted c.fits.ensures c.if-not-fits.false in
     let l : c.loop-d.d-index < 2 = omega arith in
-    let m = told_at (direction c.loop-d.d-index) c.walk_lists.result c.map_err.result _ c.map_err.ensures.cases in
+    let m = told_at (direction_at c.loop-d.d-index) c.walk_lists-walked.result c.map_err.result _ c.map_err.ensures.cases in
     let t = m (λ a y k. search rules) in
-    goes_on _ f _ _ _ _ _ _ l c.loop-d.invariant c.number.ensures c.walk_lists.ensures t c.in_ok-rows.was
+    way_sound _ f _ _ _ _ _ _ l c.loop-d.invariant c.number.ensures c.walk_lists-walked.ensures t c.in_ok-rows.was
 
 pub returns : goal.returns
-returns c = all_read _ (fitted c.fits.ensures c.if-not-fits.false) _ _ (omega arith) c.loop-d.invariant
+returns c = ways_read _ (fitted c.fits.ensures c.if-not-fits.false) _ _ (omega arith) c.loop-d.invariant
