@@ -20,6 +20,8 @@ fn write_digit<W: Write>(out: &mut W, d: u64) -> io::Result<()>
 
 // Writes x by the loop of `printing::parts::write_number`: 345 is 3 times 100, its rest 45 is 4 times 10, and the rest of that 5 times 1. Each
 // power is a tenth of the one before; a tenth of 1 is 0. Where a digit cannot be written the number ends, so that none is missing within it.
+// By hand, and not by Display: the digits come from the left and no scratch array is filled (the request behind `Wish6`). Beside
+// `write_number`, whose loop it has: that asks for room and cannot fail, and a writer can.
 fn write_digits<W: Write>(out: &mut W, x: u64) -> io::Result<()>
     ensures { OnOk result (Appends (W.contents out.old) (W.contents out.new) (digits x)) }
 {
