@@ -16,12 +16,6 @@ use lib.Seq.{get_or-set_same, get_or-set_other, ext_get_or}
 use Rattle.index.specs.Index.{END}
 use Rattle.directory.specs.Directory.{entry, Right, directory_of, followed}
 
--- a cell that is there holds the same whatever stands for one that is not
-pub same_default : (l : List ℕ) (i a b : ℕ) → i < length l → get_or l i a ≡ get_or l i b
-same_default [] i a b h = absurd (not-suc-le-zero h)
-same_default (x ∷ xs) zero a b h = refl
-same_default (x ∷ xs) (suc i) a b h = same_default xs i a b (le_of_suc-le-suc h)
-
 -- an entry that is not none has a cell
 pub inside : (d : List ℕ) (r : ℕ) → (entry d r ≡ END → ⊥) → r < length d
 inside d r n =

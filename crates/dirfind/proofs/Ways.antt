@@ -9,20 +9,20 @@ use borrow.Author.Tests.{ne_eqb, lt-ltb, le-ltb}
 use lib.Dec.{ltb}
 use lib.IntN.{ℤ}
 use lib.ListN.{set}
+use Prim.{Unit}
+use Rattle.std.specs.Prelude.{Some, None, Result, Ok, Err}
 use Rattle.index.specs.declared.Refusal.{Refusal}
 use Rattle.index.specs.declared.Refusal.TheVariants.{Tables, NoNode, Nothing, Broken}
 use Rattle.index.specs.Refusals.{refusal_no}
-use Rattle.index.proofs.Laws.{not_zero}
+use Rattle.index.proofs.Laws.{not_zero, untold_refusal}
 use Rattle.tables.specs.Net.{Net, Lent, net, fits, with_edges}
 use Rattle.tables.specs.Answers.{Told, Out, out, done, refused, unless}
 use Rattle.rows.specs.Calls.{add_edge}
-use Rattle.find.specs.declared.Sought.{Sought}
-use Rattle.find.specs.declared.Sought.TheVariants.{Row, Missing, Endless}
+use Rattle.find.specs.Parts.{Sought}
 use Rattle.find.specs.Find.{on, sought, find_edge, update_edge}
 use Rattle.find.proofs.Laws.{sought-below}
 use Rattle.directory.specs.Directory.{Filed, filed}
 use Rattle.directory.proofs.Beside.{beside-refused, beside-served}
-use Rattle.dirrows.specs.declared.parts.Claim.{Claim}
 use Rattle.dirrows.specs.Calls.{entered, reweighed, add_edge_filed}
 use Rattle.dirrows.specs.Parts.{Reweighs}
 use Rattle.dirrows.proofs.Ways.{add_ends, granted, reweighed_so}
@@ -31,6 +31,10 @@ use Rattle.dirfind.specs.Find.{update_edge_filed}
 unfit_add : (g : Net) (a b w : ℕ) → fits g ≡ false → add_edge g a b w ≡ out (refused Tables 0) g
 unfolding add_edge
 unfit_add g a b w p = rw p
+
+-- 6 is told of broken links alone
+broken_only : (why : Refusal) → refusal_no why ≡ 6 → why ≡ Broken
+broken_only why h = sym (rw h at (untold_refusal Broken (λ w. w) why))
 
 -- without a directory: an edge in use is found and gets the weight; the search never ends; or it is an add
 module _ (g : Net) (a b w : ℕ) where
@@ -44,9 +48,9 @@ module _ (g : Net) (a b w : ℕ) where
 
   by_search : fits g ≡ true → (v : Sought) → sought g a b ≡ v
       → Ends (on v (λ e. done e) (refused Nothing 0) (refused Broken 0)) (on v again (add_edge g a b w) (out (refused Broken 0) g))
-  by_search t (Row e k) q = inl (e.0, refl, refl, sought-below g.heads g.links g.ends g.m a b q, t)
-  by_search t Missing q = inr (inr (Nothing, refl, λ z. omega arith, refl))
-  by_search t Endless q = inr (inl (refl, refl))
+  by_search t (Ok (Some (e, k))) q = inl (e.0, refl, refl, sought-below g.heads g.links g.ends g.m a b q, t)
+  by_search t (Ok None) q = inr (inr (Nothing, refl, λ z. omega arith, refl))
+  by_search t (Err why) q = inr (inl (refl, refl))
 
   pub update_ways : Ends (find_edge g a b) (update_edge g a b w)
   unfolding find_edge update_edge
@@ -70,18 +74,18 @@ module _ (g : Net) (a b w : ℕ) where
       (λ y. ⊎_elim (λ z. absurd (let q : ◌≡◌ {A = ℕ} 0 6 = number_of (p ∙ z.0) in omega arith)) (λ z. absurd (not_zero z.0 (sym (number_of (p ∙ z.1))))) y)
       update_ways
 
-  pub endless_so : (why : Refusal) → refusal_no why ≡ 6 → refused why 0 ≡ find_edge g a b → out (refused why 0) g ≡ update_edge g a b w
+  pub endless_so : (why : Refusal) → why ≡ Broken → refused why 0 ≡ find_edge g a b → out (refused why 0) g ≡ update_edge g a b w
   endless_so why n p =
       ⊎_elim
       (λ z. absurd (not_zero why (number_of (p ∙ z.1))))
-      (λ y. ⊎_elim (λ z. rw n z.1) (λ z. absurd (z.2 (sym (number_of (p ∙ z.1)) ∙ n))) y)
+      (λ y. ⊎_elim (λ z. rw n z.1) (λ z. absurd (z.2 (sym (number_of (p ∙ z.1)) ∙ ap refusal_no n))) y)
       update_ways
 
-  pub missing_so : (why : Refusal) → (refusal_no why ≡ 6 → ⊥) → refused why 0 ≡ find_edge g a b → add_edge g a b w ≡ update_edge g a b w
+  pub missing_so : (why : Refusal) → (why ≡ Broken → ⊥) → refused why 0 ≡ find_edge g a b → add_edge g a b w ≡ update_edge g a b w
   missing_so why n p =
       ⊎_elim
       (λ z. absurd (not_zero why (number_of (p ∙ z.1))))
-      (λ y. ⊎_elim (λ z. absurd (n (number_of (p ∙ z.0)))) (λ z. z.3) y)
+      (λ y. ⊎_elim (λ z. absurd (n (broken_only why (number_of (p ∙ z.0))))) (λ z. z.3) y)
       update_ways
 
 module _ (f : Filed) (a b w : ℕ) where
@@ -101,7 +105,7 @@ module _ (f : Filed) (a b w : ℕ) where
       (add_ends f.net a b w))
 
 -- edge e is found: its claim decides
-pub update_told : (weights : List ℤ) (heads : List ℕ) (registers : Lent ℕ) (links ends : List ℕ) (n m : ℕ) (directory : Lent ℕ) (a b w e : ℕ) (c : Claim)
+pub update_told : (weights : List ℤ) (heads : List ℕ) (registers : Lent ℕ) (links ends : List ℕ) (n m : ℕ) (directory : Lent ℕ) (a b w e : ℕ) (c : Result Unit Refusal)
     → done e ≡ find_edge (net weights heads registers.old links ends n m) a b → Reweighs registers directory e w c
     → out (granted e 0 c) (filed (net weights heads registers.new links ends n m) directory.new)
     ≡ update_edge_filed (filed (net weights heads registers.old links ends n m) directory.old) a b w

@@ -7,10 +7,10 @@ ghost use Rattle.tables.specs.Answers.{out, told_edge};
 ghost use Rattle.directory.specs.Directory.{filed};
 ghost use Rattle.dirfind.specs.Find.{update_edge_filed};
 
-use dirrows::parts::{Claim, reweigh};
+use dirrows::parts::reweigh;
 use find::find_edge;
-use index::{NodeIndex, Refusal};
-use tables::EdgeAnswer;
+use index::{EdgeIndex, NodeIndex, Refusal};
+use tables::Network;
 
 // Gives the edge that is found the register number w, even in a full table; else adds one. Either is refused for what stands against the number.
 pub fn update_edge(
@@ -25,23 +25,28 @@ pub fn update_edge(
     a: NodeIndex,
     b: NodeIndex,
     w: u32,
-) -> EdgeAnswer
+) -> Result<EdgeIndex, Refusal>
     ensures { out (told_edge result) (filed (leaving weights.now heads.new registers.new links.new ends.new n m.new) directory.new)
         ≡ update_edge_filed (filed (entering weights.now heads.old registers.old links.old ends.old n m.old) directory.old) a.0 b.0 w }
 {
-    match find_edge(weights, heads, registers, links, ends, n, *m, a, b) {
-        EdgeAnswer::Edge(e) => match reweigh(registers, directory, e, w) {
-            Claim::Free => EdgeAnswer::Edge(e),
-            Claim::Refused(why) => EdgeAnswer::Refused(why),
-        },
-        EdgeAnswer::Refused(why) => {
-            if why.number() == Refusal::Broken.number() {
-                return EdgeAnswer::Refused(why);
-            }
-            // No edge was found; what else refuses the search refuses the new edge too.
-            dirrows::add_edge(
-                weights, heads, registers, links, ends, n, m, directory, a, b, w,
-            )
+    let net = Network {
+        weights,
+        heads,
+        registers,
+        links,
+        ends,
+        n,
+        m: *m,
+    };
+    match find_edge(net, a, b) {
+        Ok(e) => {
+            reweigh(registers, directory, e, w)?;
+            Ok(e)
         }
+        Err(why) if why == Refusal::Broken => Err(why),
+        // No edge was found; what else refuses the search refuses the new edge too.
+        Err(_) => dirrows::add_edge(
+            weights, heads, registers, links, ends, n, m, directory, a, b, w,
+        ),
     }
 }
