@@ -1,5 +1,5 @@
 -- How many numbers stand behind the letter of a line.
-use Rattle.std.specs.Prelude.{ℕ, Bool, true, false, cond, List, [], ◌∷◌, eqb}
+use Rattle.std.specs.Prelude.{ℕ, Option, Some, None, Bool, true, false, cond, List, [], ◌∷◌, eqb}
 
 -- a letter is one of these
 abbrev pub among : ℕ → List ℕ → Bool
@@ -18,3 +18,7 @@ operands_of letter =
     -- S, C, Z
     (cond (among letter (83 ∷ 67 ∷ 90 ∷ [])) 0
     4)))
+
+-- that number where it is a command's, none where it is 4
+abbrev pub command_has : ℕ → Option ℕ
+command_has count = cond (eqb count 4) None (Some count)

@@ -2,17 +2,17 @@
 #![tactic(auto)]
 
 ghost use Rattle.std.specs.Prelude.{◌≡◌};
-ghost use Rattle.letters.specs.Letters.{operands_of};
+ghost use Rattle.letters.specs.Letters.{operands_of, command_has};
 
-// How many numbers stand behind a letter; no command has 4.
-pub fn operands_of(letter: u8) -> usize
-    ensures { result ≡ operands_of letter }
+// How many numbers stand behind a letter; `None` where it is no command's.
+pub fn operands_of(letter: u8) -> Option<usize>
+    ensures { result ≡ command_has (operands_of letter) }
 {
     match letter {
-        b'E' | b'U' => 3,
-        b'F' | b'B' => 2,
-        b'N' | b'X' | b'D' | b'W' | b'G' | b'M' | b'A' => 1,
-        b'S' | b'C' | b'Z' => 0,
-        _ => 4,
+        b'E' | b'U' => Some(3),
+        b'F' | b'B' => Some(2),
+        b'N' | b'X' | b'D' | b'W' | b'G' | b'M' | b'A' => Some(1),
+        b'S' | b'C' | b'Z' => Some(0),
+        _ => None,
     }
 }
