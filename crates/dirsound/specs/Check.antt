@@ -1,19 +1,17 @@
 -- The check of a network with a directory: links first, then the directory, whose fault is told at node n + 1 of the incoming lists.
-use Rattle.std.specs.Prelude.{ℕ, ◌+◌, ◌≡◌, Bool, true, length}
+use Rattle.std.specs.Prelude.{ℕ, ◌+◌, ◌≡◌, Bool, true, length, Ok, Err}
 use Rattle.index.specs.declared.EdgeDirection.TheVariants.{Incoming}
 use Rattle.tables.specs.Net.{fits}
 use Rattle.tables.specs.Answers.{unless}
-use Rattle.sound.specs.declared.Checked.{Checked}
-use Rattle.sound.specs.declared.Checked.TheVariants as Checked·
+use Rattle.sound.specs.declared.Fault.TheVariants.{At}
 use Rattle.sound.specs.Sound.{Sound, lists}
-use Rattle.sound.specs.Check.{checked, accepted}
+use Rattle.sound.specs.Check.{Checked, checked, accepted}
 use Rattle.directory.specs.Directory.{Filed, RightFor, is_right_for, directory_of, register_of}
 
 -- only where the links are accepted is the directory looked at
 abbrev pub also_right : Checked → Bool → ℕ → Checked
-also_right (Checked·.Accepted rows) right n = unless right (Checked·.Fault Incoming (record { 0 = n + 1 })) (Checked·.Accepted rows)
-also_right (Checked·.Fault d a) right n = Checked·.Fault d a
-also_right (Checked·.Refused why) right n = Checked·.Refused why
+also_right (Ok rows) right n = unless right (Err (At Incoming (record { 0 = n + 1 }))) (Ok rows)
+also_right (Err fault) right n = Err fault
 
 unfoldable pub checked_filed : Filed → Checked
 checked_filed f = also_right (checked f.net) (is_right_for f) f.net.n
