@@ -1,6 +1,6 @@
 // What the two calls are made of, beside the rows: the check, and what it leaves of a load.
 ghost use Rattle.std.specs.Prelude.{◌≡◌, length};
-ghost use Rattle.tables.specs.Net.{entering, leaving};
+ghost use Rattle.tables.specs.Net.{entering, leaving, net_of};
 ghost use Rattle.tables.specs.Answers.{out, told_change};
 ghost use Rattle.imagerows.specs.Parts.{RowsAgree};
 ghost use Rattle.sound.specs.Check.{is_sound};
@@ -9,31 +9,20 @@ ghost use Rattle.loading.specs.Parts.{HeadHeld};
 
 use imagerows::parts::load;
 use index::Refusal;
-use layout::parts::word;
+use layout::parts::number_at;
 use layout::{EDGES_AT, NODES_AT, image_length};
-use sound::{Checked, check};
-use tables::Changed;
+use sound::check;
+use tables::Network;
 use tables::parts::{vacate_edges, vacate_nodes};
 
-pub fn is_sound(
-    weights: &[i32],
-    heads: &[u32],
-    registers: &[u32],
-    links: &[u32],
-    ends: &[u32],
-    n: u32,
-    m: u32,
-) -> bool
-    ensures { result ≡ is_sound (entering weights.now heads.now registers.now links.now ends.now n m) }
+pub fn is_sound(net: Network) -> bool
+    ensures { result ≡ is_sound (net_of net.entry) }
 {
-    match check(weights, heads, registers, links, ends, n, m) {
-        Checked::Accepted(_) => true,
-        Checked::Fault(_, _) => false,
-        Checked::Refused(_) => false,
-    }
+    check(net).is_ok()
 }
 
 // All rows lent become vacant.
+#[tactic(auto, unfolding(crate::specs::Loading::vacated, tables::specs::Rows::vacant_nodes, tables::specs::Rows::vacant_edges))]
 pub fn empty(
     weights: &mut [i32],
     heads: &mut [u32],
@@ -51,6 +40,7 @@ pub fn empty(
 }
 
 // The rows that were loaded stay if they are sound.
+#[tactic(auto, using(tables::proofs::Guards::guards), unfolding(crate::specs::Loading::settled))]
 fn settle(
     weights: &mut [i32],
     heads: &mut [u32],
@@ -61,23 +51,33 @@ fn settle(
     m: &mut u32,
     nodes: u32,
     edges: u32,
-) -> Changed
+) -> Result<(), Refusal>
     requires { RowsAgree (length weights.old) (length heads.old) (length registers.old) (length links.old) (length ends.old) }
     ensures { out (told_change result) (leaving weights.new heads.new registers.new links.new ends.new n.new m.new)
         ≡ settled (entering weights.old heads.old registers.old links.old ends.old nodes edges) }
 {
-    if !is_sound(weights, heads, registers, links, ends, nodes, edges) {
+    let net = Network {
+        weights,
+        heads,
+        registers,
+        links,
+        ends,
+        n: nodes,
+        m: edges,
+    };
+    if !is_sound(net) {
         empty(weights, heads, registers, links, ends);
         *n = 0;
         *m = 0;
-        return Changed::Refused(Refusal::Broken);
+        return Err(Refusal::Broken);
     }
     *n = nodes;
     *m = edges;
-    Changed::Done
+    Ok(())
 }
 
 // An image of version 1, past its mark and version.
+#[tactic(auto, using(tables::proofs::Guards::guards), unfolding(crate::specs::Loading::read_one))]
 pub fn read_one(
     weights: &mut [i32],
     heads: &mut [u32],
@@ -87,22 +87,22 @@ pub fn read_one(
     n: &mut u32,
     m: &mut u32,
     bytes: &[u8],
-) -> Changed
+) -> Result<(), Refusal>
     requires { HeadHeld (length weights.old) (length heads.old) (length registers.old) (length links.old) (length ends.old) (length bytes.now) }
     ensures { out (told_change result) (leaving weights.new heads.new registers.new links.new ends.new n.new m.new)
         ≡ read_one (entering weights.old heads.old registers.old links.old ends.old n.old m.old) bytes.now }
 {
-    let nodes = word(bytes, NODES_AT);
-    let edges = word(bytes, EDGES_AT);
+    let nodes = number_at::<4>(bytes, NODES_AT);
+    let edges = number_at::<4>(bytes, EDGES_AT);
     let length = image_length(nodes, edges);
     if weights.len() < nodes as usize {
-        return Changed::Refused(Refusal::Full);
+        return Err(Refusal::Full);
     }
     if registers.len() < edges as usize {
-        return Changed::Refused(Refusal::Full);
+        return Err(Refusal::Full);
     }
     if bytes.len() != length {
-        return Changed::Refused(Refusal::NotImage);
+        return Err(Refusal::NotImage);
     }
     load(weights, heads, registers, links, ends, nodes, edges, bytes);
     settle(weights, heads, registers, links, ends, n, m, nodes, edges)

@@ -1,9 +1,10 @@
-use Rattle.tables.proofs.Laws.{misfit, fitted}
-use Rattle.loading.proofs.Served.{broken-vacated, sound_kept}
+-- What is left empty does not depend on the counts that were loaded.
+use Rattle.std.proofs.Common.{arith}
+use Rattle.tables.specs.Rows.{vacant_nodes, vacant_edges}
+use Rattle.tables.proofs.Guards.{guards}
+use Rattle.loading.specs.Loading.{vacated, settled}
 use Rattle.loading.proofs.parts.settle.Goals as goal
 
 pub returns-then-not-is_sound : goal.returns-then-not-is_sound
-returns-then-not-is_sound c = broken-vacated _ (misfit c.is_sound.ensures c.if-not-is_sound.true) c.empty.ensures
-
-pub returns : goal.returns
-returns c = sound_kept _ (fitted c.is_sound.ensures c.if-not-is_sound.false)
+unfolding settled vacated vacant_nodes vacant_edges
+returns-then-not-is_sound c = grind (arith, guards)
