@@ -4,6 +4,7 @@ use Prim.Native.Nat.{ℕ, ◌≤◌}
 use mathlib.Core.Path.{◌≡◌, refl, ap, ◌∙◌}
 use mathlib.Core.Bool.{Bool, true, false, ◌&&◌}
 use mathlib.Core.List.{List}
+use Rattle.std.specs.Prelude.{Ok, Err}
 use native.Mathlib.Omega.{arith}
 use borrow.Author.Tests.{leb-true, eqb-true, le-leb, eq-eqb}
 use lib.Dec.{leb, eqb}
@@ -15,10 +16,8 @@ use Rattle.tables.specs.Net.{Net, fits, node_cell, edge_cell}
 use Rattle.tables.specs.Answers.{Out, out, done, refused, unless, onto}
 use Rattle.tables.specs.Rows.{node_row, edge_row}
 use Rattle.tables.proofs.Laws.{both, fit-says}
-use Rattle.sound.specs.declared.Checked.{Checked}
-use Rattle.sound.specs.declared.Checked.TheVariants as Checked·
 use Rattle.sound.specs.Sound.{Sound, lists}
-use Rattle.sound.specs.Check.{checked, accepted, is_sound}
+use Rattle.sound.specs.Check.{Checked, checked, accepted, is_sound}
 use Rattle.sound.proofs.Exactly.{two, sound_accepted, accepted-sound}
 use Rattle.sound.proofs.Kept.{Agree, in_use}
 use Rattle.layout.specs.Layout.{version, head_bytes, image_length, marked, version_in, nodes_in, edges_in}
@@ -32,10 +31,9 @@ use Rattle.imagerows.proofs.Spans.{image_marked, image_version, image_nodes, ima
 use Rattle.imagerows.proofs.Loads.{loaded-columns, loaded-fits, loaded-node, loaded-edge}
 
 -- the check accepts exactly the sound networks
-accepted-is : (r : Checked) → accepted r ≡ true → (rows : ℕ) × (r ≡ Checked·.Accepted rows)
-accepted-is (Checked·.Accepted rows) h = (rows, refl)
-accepted-is (Checked·.Fault d a) h = absurd (let z : ◌≡◌ {A = ℕ} 0 1 = cc in omega arith)
-accepted-is (Checked·.Refused why) h = absurd (let z : ◌≡◌ {A = ℕ} 0 1 = cc in omega arith)
+accepted-is : (r : Checked) → accepted r ≡ true → (rows : ℕ) × (r ≡ Ok rows)
+accepted-is (Ok rows) h = (rows, refl)
+accepted-is (Err why) h = absurd (let z : ◌≡◌ {A = ℕ} 0 1 = cc in omega arith)
 
 pub sound_is : (g : Net) (ls : ℕ → ℕ → List ℕ) → fits g ≡ true → Sound g ls → is_sound g ≡ true
 sound_is g ls f S = ap accepted (sound_accepted g ls f S)
