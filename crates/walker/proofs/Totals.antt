@@ -4,6 +4,7 @@ use mathlib.Core.Path.{◌≡◌, refl, sym, ap, ◌∙◌}
 use mathlib.Core.Bool.{Bool, true, false, cond, not, ◌&&◌}
 use mathlib.Core.List.{List, [], ◌∷◌, ◌++◌, map, map-append, append-nil}
 use lib.Dec.{ltb}
+use Rattle.std.proofs.Common.{Option, Some, None}
 use lib.IntN.{ℤ, pos, ◌+ℤ◌, +ℤ_idl, +ℤ_idr, +ℤ_assoc}
 use lib.ListN.{get_or}
 use lib.Signed.{mag}
@@ -13,9 +14,8 @@ use borrow.Author.Tests.{lt-ltb, le-ltb}
 use native.Mathlib.Omega.{arith}
 use Rattle.lists.specs.declared.Pick.{Pick}
 use Rattle.lists.specs.Walk.{walk, stop, filter, cell, picked}
-use Rattle.lists.proofs.Walks.{Along, rest, all_met, stops_here, stops_short, filter-append}
-use Rattle.walker.specs.declared.Tally.{Tally}
-use Rattle.walker.specs.declared.Tally.TheVariants.{Total, Broken}
+use Rattle.lists.proofs.Walks.{Along, rest, all_met, stops_here, stops_short}
+use Rattle.std.proofs.lemmas.List.Elements.{filter-append}
 use Rattle.walker.specs.Sums.{total, present, weighed, tally_of, Tallies}
 use Rattle.walker.proofs.Signed.{mag_add, more_is}
 
@@ -89,16 +89,16 @@ module _ (weights : List ℤ) (n : ℕ) (p : ℕ → Bool) (far : ℕ → ℕ) (
       rw (i, more_is z (at b) room g, q) (sum_takes e s t l (rw q at g))
 
   module _ {next : ℕ → ℕ} {m first : ℕ} {met : List ℕ} {e rows : ℕ} (a : Along next m first met e rows) where
-    abbrev tallied : Tally
+    abbrev tallied : Option ℤ
     tallied = tally_of weights n m (stop next m m first) (fars p far (walk next m m first)) before
 
-    pub sum-ends : {z : ℤ} → Summing weights n p far before met z rows → m ≤ e → Total z ≡ tallied
+    pub sum-ends : {z : ℤ} → Summing weights n p far before met z rows → m ≤ e → Some z ≡ tallied
     sum-ends s h = rw (all_met a h, stops_here a h, le-ltb e m h, s.none-missing, ← s.sum_is)
 
-    pub sum-endless : e < m → rows ≡ m → Broken ≡ tallied
+    pub sum-endless : e < m → rows ≡ m → None ≡ tallied
     sum-endless h r = rw (stops_short a r, lt-ltb e m h)
 
-    pub sum_misses : {z : ℤ} → Summing weights n p far before met z rows → e < m → (rows ≡ m → ⊥) → p e ≡ true → n ≤ far e → Broken ≡ tallied
+    pub sum_misses : {z : ℤ} → Summing weights n p far before met z rows → e < m → (rows ≡ m → ⊥) → p e ≡ true → n ≤ far e → None ≡ tallied
     sum_misses s h r t l =
         let xs = walk next m (m - (rows + 1)) (next e) in
         let q : fars p far (walk next m m first) ≡ fars p far met ++ (far e ∷ fars p far xs) =
@@ -115,12 +115,12 @@ room_left z back small most r room = let l = rw back at small in omega arith
 module _ {weights : List ℤ} {links ends : List ℕ} {n m k : ℕ} {pick : Pick} {link : ℕ} {before from z : ℤ} {met : List ℕ} {e rows : ℕ}
     (back : from ≡ before) (a : Along (cell links k) m link met e rows)
     (s : Summing weights n (λ x. picked pick (cell ends (1 - k) x)) (cell ends (1 - k)) from met z rows) where
-  pub tallies_total : m ≤ e → Tallies weights links ends n m k pick link before (Total z)
+  pub tallies_total : m ≤ e → Tallies weights links ends n m k pick link before (Some z)
   tallies_total h =
       rw (← back) (record { answer_is = sum-ends weights n _ _ from a s h; small = omega (arith, s.small, a.most) })
 
-  pub tallies_endless : e < m → rows ≡ m → Tallies weights links ends n m k pick link before Broken
+  pub tallies_endless : e < m → rows ≡ m → Tallies weights links ends n m k pick link before None
   tallies_endless h r = record { answer_is = sum-endless weights n _ _ before a h r; small = omega arith }
 
-  pub tallies_missing : e < m → (rows ≡ m → ⊥) → picked pick (cell ends (1 - k) e) ≡ true → n ≤ cell ends (1 - k) e → Tallies weights links ends n m k pick link before Broken
+  pub tallies_missing : e < m → (rows ≡ m → ⊥) → picked pick (cell ends (1 - k) e) ≡ true → n ≤ cell ends (1 - k) e → Tallies weights links ends n m k pick link before None
   tallies_missing h r t l = rw (← back) (record { answer_is = sum_misses weights n _ _ from a s h r t l; small = omega arith })

@@ -1,18 +1,16 @@
 -- The walker of a node's neighbours: three numbers, moved on by one neighbour a step.
-use Rattle.std.specs.Prelude.{ℕ, cond, List, [], ◌∷◌, ltb}
+use Rattle.std.specs.Prelude.{ℕ, cond, List, [], ◌∷◌, ltb, Result}
 use Rattle.index.specs.Index.{END}
+use Rattle.index.specs.declared.Refusal.{Refusal}
 use Rattle.index.specs.declared.Refusal.TheVariants.{Tables, Nothing, Broken}
 use Rattle.tables.specs.Net.{Net, fits}
-use Rattle.tables.specs.Answers.{Told, Out, out, done, refused, unless}
+use Rattle.tables.specs.Answers.{Told, Out, out, done, refused, unless, told_as, told_node}
 use Rattle.lists.specs.declared.Spot.TheVariants.{Head}
 use Rattle.lists.specs.declared.Pick.TheVariants.{NotTo}
 use Rattle.lists.specs.declared.Item.TheVariants.{Far}
 use Rattle.lists.specs.Walk.{cell, link_at, gives, taken_from, stop_from}
 use Rattle.walker.specs.declared.Walker.{Walker}
-use Rattle.walker.specs.declared.Begun.{Begun}
-use Rattle.walker.specs.declared.Begun.TheVariants as Begun·
 use Rattle.walker.specs.declared.Step.{Step}
-use Rattle.walker.specs.declared.Step.TheVariants.{Neighbor, Stopped}
 
 -- a walker: the node where it started, its next outgoing and its next incoming edge
 abbrev pub walker_of : (start outgoing incoming : ℕ) → Walker
@@ -48,15 +46,12 @@ step g w =
     (incoming_step g w (taken_from g.links g.ends g.m 1 (NotTo w.start) i) (stop_from g.links g.m 1 i)))
 
 -- a refusal tells zeros
-abbrev pub told_begun : Begun → Told Walker
-told_begun (Begun·.Walker w) = done w
-told_begun (Begun·.Refused why) = refused why (walker_of 0 0 0)
+abbrev pub told_begun : Result Walker Refusal → Told Walker
+told_begun = told_as (λ (w : Walker). w) (walker_of 0 0 0)
 
 -- what a step tells is its neighbour; beside it stands the walker
 abbrev pub told_step : Step → Told ℕ
-told_step (Neighbor b w) = done b.0
-told_step (Stopped why w) = refused why 0
+told_step s = told_node s.neighbor
 
 abbrev pub moved : Step → Walker
-moved (Neighbor b w) = w
-moved (Stopped why w) = w
+moved s = s.walker

@@ -2,16 +2,17 @@
 #![tactic(auto)]
 
 ghost use Rattle.std.specs.Prelude.{◌≡◌};
-ghost use Rattle.tables.specs.Net.{entering};
+ghost use Rattle.tables.specs.Net.{net_of};
 ghost use Rattle.tables.specs.Answers.{out};
-ghost use Rattle.walker.specs.Steps.{with_outgoing, with_incoming, told_begun, told_step, moved, begin, step};
+ghost use Rattle.walker.specs.Steps.{told_begun, told_step, moved, begin, step};
 ghost use Rattle.walker.specs.Sums.{told_summed, sum_around};
 
 use index::{EdgeIndex, NodeIndex, Refusal};
 use lists::parts::first;
 use lists::{Found, Pick};
 use parts::sum;
-use tables::parts::{EDGE_CELLS, INCOMING, NODE_CELLS, OUTGOING, SOURCE, TARGET, fits};
+use tables::Network;
+use tables::parts::{EDGE_CELLS, INCOMING, NODE_CELLS, OUTGOING, SOURCE, TARGET};
 
 pub mod parts;
 
@@ -23,151 +24,126 @@ pub struct Walker {
     pub incoming: EdgeIndex,
 }
 
-#[derive(Clone, Copy)]
-pub enum Begun {
-    Walker(Walker),
-    Refused(Refusal),
-}
-
 // A neighbour, or why there is none; and the walker as it then stands.
 #[derive(Clone, Copy)]
-pub enum Step {
-    Neighbor(NodeIndex, Walker),
-    Stopped(Refusal, Walker),
-}
-
-#[derive(Clone, Copy)]
-pub enum Summed {
-    Sum(i64),
-    Refused(Refusal),
-}
-
-// What one list adds to a sum; or that it does not end, or has a neighbour that is missing.
-#[derive(Clone, Copy)]
-pub enum Tally {
-    Total(i64),
-    Broken,
+pub struct Step {
+    pub neighbor: Result<NodeIndex, Refusal>,
+    pub walker: Walker,
 }
 
 impl Walker {
     // At the heads of node a's two lists. A missing node has none: the walker is then at its end.
-    pub fn new(
-        weights: &[i32],
-        heads: &[u32],
-        registers: &[u32],
-        links: &[u32],
-        ends: &[u32],
-        n: u32,
-        m: u32,
-        a: NodeIndex,
-    ) -> Begun
-        ensures { told_begun result ≡ begin (entering weights.now heads.now registers.now links.now ends.now n m) a.0 }
+    #[tactic(auto, using(tables::proofs::Guards::guards, tables::proofs::Laws::fitting), unfolding(crate::specs::Steps::begin))]
+    pub fn new(net: Network, a: NodeIndex) -> Result<Walker, Refusal>
+        ensures { told_begun result ≡ begin (net_of net.entry) a.0 }
     {
-        if !fits(weights, heads, registers, links, ends, n, m) {
-            return Begun::Refused(Refusal::Tables);
+        if !net.fits() {
+            return Err(Refusal::Tables);
         }
-        if a.0 < n {
-            let row = NODE_CELLS * a.index();
-            return Begun::Walker(Walker {
+        if net.n <= a.0 {
+            return Ok(Walker {
                 start: a,
-                outgoing: EdgeIndex(heads[row + OUTGOING]),
-                incoming: EdgeIndex(heads[row + INCOMING]),
+                outgoing: EdgeIndex::END,
+                incoming: EdgeIndex::END,
             });
         }
-        Begun::Walker(Walker {
+        let row = NODE_CELLS * a.index();
+        Ok(Walker {
             start: a,
-            outgoing: EdgeIndex::END,
-            incoming: EdgeIndex::END,
+            outgoing: EdgeIndex(net.heads[row + OUTGOING]),
+            incoming: EdgeIndex(net.heads[row + INCOMING]),
         })
     }
 
-    fn with_outgoing(self, e: EdgeIndex) -> Walker
-        ensures { result ≡ with_outgoing self e.0 }
-    {
-        let start = self.start;
-        let incoming = self.incoming;
-        Walker {
-            start,
-            outgoing: e,
-            incoming,
-        }
-    }
-
-    fn with_incoming(self, e: EdgeIndex) -> Walker
-        ensures { result ≡ with_incoming self e.0 }
-    {
-        let start = self.start;
-        let outgoing = self.outgoing;
-        Walker {
-            start,
-            outgoing,
-            incoming: e,
-        }
-    }
-
     // On to the next neighbour: along the outgoing list, then along the incoming one, where self-loops are skipped.
-    pub fn step(
-        self,
-        weights: &[i32],
-        heads: &[u32],
-        registers: &[u32],
-        links: &[u32],
-        ends: &[u32],
-        n: u32,
-        m: u32,
-    ) -> Step
-        ensures { out (told_step result) (moved result) ≡ step (entering weights.now heads.now registers.now links.now ends.now n m) self }
+    #[tactic(auto, using(tables::proofs::Guards::guards, tables::proofs::Laws::fitting), unfolding(crate::specs::Steps::step))]
+    pub fn step(self, net: Network) -> Step
+        ensures { out (told_step result) (moved result) ≡ step (net_of net.entry) self }
     {
-        if !fits(weights, heads, registers, links, ends, n, m) {
-            return Step::Stopped(Refusal::Tables, self);
+        if !net.fits() {
+            return Step {
+                neighbor: Err(Refusal::Tables),
+                walker: self,
+            };
         }
         let e = self.outgoing;
-        if e.0 < m {
+        if e.0 < net.m {
             let row = EDGE_CELLS * e.index();
-            let b = NodeIndex(ends[row + TARGET]);
-            return Step::Neighbor(b, self.with_outgoing(EdgeIndex(links[row + OUTGOING])));
+            let outgoing = EdgeIndex(net.links[row + OUTGOING]);
+            return Step {
+                neighbor: Ok(NodeIndex(net.ends[row + TARGET])),
+                walker: Walker { outgoing, ..self },
+            };
         }
         let start = self.start;
         let i = self.incoming;
-        match first(links, ends, m, INCOMING, Pick::NotTo(start), i.0) {
+        match first(
+            net.links,
+            net.ends,
+            net.m,
+            INCOMING,
+            Pick::NotTo(start),
+            i.0,
+        ) {
             Found::At(e) => {
                 let row = EDGE_CELLS * e.index();
-                let b = NodeIndex(ends[row + SOURCE]);
-                Step::Neighbor(b, self.with_incoming(EdgeIndex(links[row + INCOMING])))
+                let incoming = EdgeIndex(net.links[row + INCOMING]);
+                Step {
+                    neighbor: Ok(NodeIndex(net.ends[row + SOURCE])),
+                    walker: Walker { incoming, ..self },
+                }
             }
-            Found::End(e) => Step::Stopped(Refusal::Nothing, self.with_incoming(e)),
-            Found::Broken => Step::Stopped(Refusal::Broken, self),
+            Found::End(e) => Step {
+                neighbor: Err(Refusal::Nothing),
+                walker: Walker {
+                    incoming: e,
+                    ..self
+                },
+            },
+            Found::Broken => Step {
+                neighbor: Err(Refusal::Broken),
+                walker: self,
+            },
         }
     }
 }
 
 // The weights of a node's neighbours: along its outgoing list, then along its incoming one, where self-loops are skipped.
-pub fn sum_around(
-    weights: &[i32],
-    heads: &[u32],
-    registers: &[u32],
-    links: &[u32],
-    ends: &[u32],
-    n: u32,
-    m: u32,
-    a: NodeIndex,
-) -> Summed
-    ensures { told_summed result ≡ sum_around (entering weights.now heads.now registers.now links.now ends.now n m) a.0 }
+#[tactic(auto, using(tables::proofs::Guards::guards, tables::proofs::Laws::fitting), unfolding(crate::specs::Sums::sum_around))]
+pub fn sum_around(net: Network, a: NodeIndex) -> Result<i64, Refusal>
+    ensures { told_summed result ≡ sum_around (net_of net.entry) a.0 }
 {
-    if !fits(weights, heads, registers, links, ends, n, m) {
-        return Summed::Refused(Refusal::Tables);
+    if !net.fits() {
+        return Err(Refusal::Tables);
     }
-    if n <= a.0 {
-        return Summed::Refused(Refusal::NoNode);
+    if net.n <= a.0 {
+        return Err(Refusal::NoNode);
     }
     let row = NODE_CELLS * a.index();
-    let e = heads[row + OUTGOING];
-    let Tally::Total(z) = sum(weights, links, ends, n, m, OUTGOING, Pick::Every, e, 0) else {
-        return Summed::Refused(Refusal::Broken);
-    };
-    let i = heads[row + INCOMING];
-    match sum(weights, links, ends, n, m, INCOMING, Pick::NotTo(a), i, z) {
-        Tally::Total(z) => Summed::Sum(z),
-        Tally::Broken => Summed::Refused(Refusal::Broken),
-    }
+    let e = net.heads[row + OUTGOING];
+    let outs = sum(
+        net.weights,
+        net.links,
+        net.ends,
+        net.n,
+        net.m,
+        OUTGOING,
+        Pick::Every,
+        e,
+        0,
+    );
+    let z = outs.ok_or(Refusal::Broken)?;
+    let i = net.heads[row + INCOMING];
+    let both = sum(
+        net.weights,
+        net.links,
+        net.ends,
+        net.n,
+        net.m,
+        INCOMING,
+        Pick::NotTo(a),
+        i,
+        z,
+    );
+    both.ok_or(Refusal::Broken)
 }

@@ -2,13 +2,12 @@
 ghost use Rattle.std.specs.Prelude.{◌≡◌, length};
 ghost use Rattle.walker.specs.Sums.{Sums, Tallies};
 
-use crate::Tally;
 use index::{EdgeIndex, NodeIndex};
 use lists::Pick;
 use lists::parts::picks;
 use tables::parts::EDGE_CELLS;
 
-// The weights of the far ends that the walk takes, on top of `before`.
+// The weights of the far ends that the walk takes, on top of `before`, where the list ends and none of them is missing.
 pub fn sum(
     weights: &[i32],
     links: &[u32],
@@ -19,7 +18,7 @@ pub fn sum(
     pick: Pick,
     link: u32,
     before: i64,
-) -> Tally
+) -> Option<i64>
     requires { Sums (length weights.now) (length links.now) (length ends.now) n m k before }
     ensures { Tallies weights.now links.now ends.now n m k pick link before result }
 {
@@ -29,18 +28,18 @@ pub fn sum(
     let mut total = before;
     while e < m {
         if rows == m {
-            return Tally::Broken;
+            return None;
         }
         let row = EDGE_CELLS * EdgeIndex(e).index();
         let b = NodeIndex(ends[row + far]);
         if picks(pick, b) {
             if n <= b.0 {
-                return Tally::Broken;
+                return None;
             }
             total += weights[b.index()] as i64;
         }
         e = links[row + k];
         rows += 1;
     }
-    Tally::Total(total)
+    Some(total)
 }
