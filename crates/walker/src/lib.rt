@@ -121,29 +121,7 @@ pub fn sum_around(net: Network, a: NodeIndex) -> Result<i64, Refusal>
     }
     let row = NODE_CELLS * a.index();
     let e = net.heads[row + OUTGOING];
-    let outs = sum(
-        net.weights,
-        net.links,
-        net.ends,
-        net.n,
-        net.m,
-        OUTGOING,
-        Pick::Every,
-        e,
-        0,
-    );
-    let z = outs.ok_or(Refusal::Broken)?;
+    let outs = sum(net, OUTGOING, Pick::Every, e, 0).ok_or(Refusal::Broken)?;
     let i = net.heads[row + INCOMING];
-    let both = sum(
-        net.weights,
-        net.links,
-        net.ends,
-        net.n,
-        net.m,
-        INCOMING,
-        Pick::NotTo(a),
-        i,
-        z,
-    );
-    both.ok_or(Refusal::Broken)
+    sum(net, INCOMING, Pick::NotTo(a), i, outs).ok_or(Refusal::Broken)
 }
