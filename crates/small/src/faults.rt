@@ -3,9 +3,10 @@
 use crate::Tables;
 use index::EdgeIndex;
 use printer::print_number;
-use sound::Checked;
+use sound::{Fault, check};
 use std::io;
 use std::io::Stdout;
+use tables::Network;
 
 const END: u32 = EdgeIndex::END.0;
 
@@ -73,23 +74,27 @@ fn of(heads: [u32; 4], links: [u32; 4], ends: [u32; 4]) -> Tables {
 }
 
 fn told(stdout: &Stdout, label: &[u8], t: Tables) -> io::Result<()> {
-    let weights = [0i32; 2];
-    let registers = [0u32; 2];
-    let heads = t.heads;
-    let links = t.links;
-    let ends = t.ends;
+    let net = Network {
+        weights: &[0; 2],
+        heads: &t.heads,
+        registers: &[0; 2],
+        links: &t.links,
+        ends: &t.ends,
+        n: 2,
+        m: 2,
+    };
     stdout.write_all(label)?;
-    match sound::check(&weights, &heads, &registers, &links, &ends, 2, 2) {
-        Checked::Accepted(rows) => {
+    match check(net) {
+        Ok(rows) => {
             print_number(stdout, 0);
             crate::count(stdout, rows)?;
         }
-        Checked::Fault(d, a) => {
+        Err(Fault::At(d, a)) => {
             print_number(stdout, 6);
             crate::number(stdout, d.number() as u64)?;
             crate::count(stdout, a.0)?;
         }
-        Checked::Refused(why) => {
+        Err(Fault::Refused(why)) => {
             print_number(stdout, why.number() as u64);
         }
     }

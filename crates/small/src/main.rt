@@ -6,15 +6,16 @@
 
 ghost use Rattle.std.specs.Prelude.{◌<◌};
 
-use index::EdgeDirection;
+use index::{EdgeDirection, EdgeIndex};
 use printer::print_number;
-use sound::Checked;
+use sound::{Fault, check};
 use std::io;
 use std::io::Stdout;
+use tables::Network;
 
 mod faults;
 
-const END: u32 = 4294967295;
+const END: u32 = EdgeIndex::END.0;
 
 // The tables with n nodes and m edges that have 2n cells of heads and 4m of links and ends: 4 to the power of that.
 const NETWORKS: [u32; 9] = [1, 256, 65536, 16, 4096, 1048576, 256, 65536, 16777216];
@@ -35,13 +36,7 @@ struct Tally {
 // A cell by the lowest digit of a code, base 4; one that is not in use is vacant.
 fn cell(code: u32, used: bool) -> u32 {
     let digit = code % 4;
-    if !used {
-        return END;
-    }
-    if 2 < digit {
-        return END;
-    }
-    digit
+    if used && digit <= 2 { digit } else { END }
 }
 
 fn column(code: u32, cells: u32) -> [u32; 4] {
@@ -70,39 +65,29 @@ fn decoded(code: u32, n: u32, m: u32) -> Tables {
 fn power(rows: u32) -> u32
     ensures { 0 < result }
 {
-    if rows == 0 {
-        return 1;
+    match rows {
+        0 => 1,
+        1 => 16,
+        _ => 256,
     }
-    if rows == 1 {
-        return 16;
-    }
-    256
 }
 
 // 0 accepted, 1 to 3 an outgoing fault at node 0 to 2, 4 to 6 an incoming one, 7 anything else.
 fn answer(t: Tables, n: u32, m: u32) -> usize {
-    let weights = [0i32; 2];
-    let registers = [0u32; 2];
-    let heads = t.heads;
-    let links = t.links;
-    let ends = t.ends;
-    match sound::check(&weights, &heads, &registers, &links, &ends, n, m) {
-        Checked::Accepted(rows) => {
-            if rows == 2 * (m % 4) {
-                return 0;
-            }
-            7
-        }
-        Checked::Refused(_) => 7,
-        Checked::Fault(d, a) => {
-            if 2 < a.0 {
-                return 7;
-            }
-            match d {
-                EdgeDirection::Outgoing => 1 + a.index(),
-                EdgeDirection::Incoming => 4 + a.index(),
-            }
-        }
+    let net = Network {
+        weights: &[0; 2],
+        heads: &t.heads,
+        registers: &[0; 2],
+        links: &t.links,
+        ends: &t.ends,
+        n,
+        m,
+    };
+    match check(net) {
+        Ok(rows) if rows == 2 * (m % 4) => 0,
+        Err(Fault::At(EdgeDirection::Outgoing, a)) if a.0 <= 2 => 1 + a.index(),
+        Err(Fault::At(EdgeDirection::Incoming, a)) if a.0 <= 2 => 4 + a.index(),
+        _ => 7,
     }
 }
 
@@ -121,10 +106,8 @@ fn all(networks: u32, n: u32, m: u32) -> Tally {
         counts: [0; 8],
         hash: 0,
     };
-    let mut code = 0;
-    while code < networks {
+    for code in 0..networks {
         t = counted(t, answer(decoded(code, n, m), n, m));
-        code += 1;
     }
     t
 }
@@ -147,15 +130,9 @@ fn line(stdout: &Stdout, n: u32, m: u32) -> io::Result<()> {
     count(stdout, m)?;
     stdout.write_all(b":")?;
     count(stdout, networks)?;
-    let counts = t.counts;
-    count(stdout, counts[0])?;
-    count(stdout, counts[1])?;
-    count(stdout, counts[2])?;
-    count(stdout, counts[3])?;
-    count(stdout, counts[4])?;
-    count(stdout, counts[5])?;
-    count(stdout, counts[6])?;
-    count(stdout, counts[7])?;
+    for answers in t.counts {
+        count(stdout, answers)?;
+    }
     number(stdout, t.hash)?;
     stdout.write_all(b"\n")
 }
@@ -163,13 +140,10 @@ fn line(stdout: &Stdout, n: u32, m: u32) -> io::Result<()> {
 fn main(rt: HostRuntime) -> io::Result<()> {
     let stdout = rt.stdout();
     faults::run(&stdout)?;
-    line(&stdout, 0, 0)?;
-    line(&stdout, 0, 1)?;
-    line(&stdout, 0, 2)?;
-    line(&stdout, 1, 0)?;
-    line(&stdout, 1, 1)?;
-    line(&stdout, 1, 2)?;
-    line(&stdout, 2, 0)?;
-    line(&stdout, 2, 1)?;
-    line(&stdout, 2, 2)
+    for n in 0..3 {
+        for m in 0..3 {
+            line(&stdout, n, m)?;
+        }
+    }
+    Ok(())
 }
