@@ -1,5 +1,6 @@
 -- Whether rows can be filed, in the order's words: `filing-beyond`, `filing-taken`, `filing-free`.
 -- Rows that can be filed have a right directory, `filed-right`; rows that have one can be filed, `right_files`.
+use Prim.{Unit, tt}
 use Prim.Native.Nat.{ℕ, zero, suc, ◌≤◌, ◌<◌}
 use mathlib.Core.Path.{◌≡◌, refl, sym, ap, ◌∙◌}
 use mathlib.Core.Bool.{Bool, true, false, not, ◌&&◌}
@@ -12,14 +13,14 @@ use borrow.Author.Tests.{eq-eqb, ne_eqb, ltb-true, ltb-false, eqb-true, eqb-fals
 use lib.Dec.{eqb}
 use lib.ListN.{length, set, replicate}
 use lib.Seq.{get_or-set_same, get_or-set_other}
+use Rattle.std.specs.Prelude.{Result, Ok, Err}
+use Rattle.index.specs.declared.Refusal.{Refusal}
 use Rattle.index.specs.declared.Refusal.TheVariants.{Taken, Beyond}
 use Rattle.index.specs.Index.{END, is_end}
 use Rattle.tables.specs.Answers.{unless}
 use Rattle.directory.specs.Directory.{entry, every, directory_of, Right}
 use Rattle.directory.proofs.Every.{every-says, every_so}
 use Rattle.directory.proofs.Laws.{directory_length, has_cell_lem, apart, right_none, right_built}
-use Rattle.dirrows.specs.declared.parts.Claim.{Claim}
-use Rattle.dirrows.specs.declared.parts.Claim.TheVariants as Claim·
 use Rattle.dirrows.specs.Parts.{claim_no}
 use Rattle.dirimage.specs.Loading.{has_cell, is_first, filing}
 use Rattle.dirimage.specs.Load.{SomeBeyond, AllBelow, BorneTwice}
@@ -64,10 +65,10 @@ none-borne number cells r (suc e) h s =
     and_all false = refl
 
 -- how the rows can be filed, by the numbers that they bear
-pub data FilingEnds (number : ℕ → ℕ) (m cells : ℕ) (r : Claim) : Type 0 where
-  beyond : r ≡ Claim·.Refused Beyond → SomeBeyond number m cells → FilingEnds number m cells r
-  taken : r ≡ Claim·.Refused Taken → AllBelow number m cells → BorneTwice number m → FilingEnds number m cells r
-  free : r ≡ Claim·.Free → AllBelow number m cells → (BorneTwice number m → ⊥) → FilingEnds number m cells r
+pub data FilingEnds (number : ℕ → ℕ) (m cells : ℕ) (r : Result Unit Refusal) : Type 0 where
+  beyond : r ≡ Err Beyond → SomeBeyond number m cells → FilingEnds number m cells r
+  taken : r ≡ Err Taken → AllBelow number m cells → BorneTwice number m → FilingEnds number m cells r
+  free : r ≡ Ok tt → AllBelow number m cells → (BorneTwice number m → ⊥) → FilingEnds number m cells r
 
 module _ (number : ℕ → ℕ) (m cells : ℕ) where
   below_says : every (has_cell number cells) m ≡ true → AllBelow number m cells
@@ -103,50 +104,50 @@ module _ (number : ℕ → ℕ) (m cells : ℕ) where
   filing-ends = go (every (has_cell number cells) m) (every (is_first number) m) refl refl
     where
       go : (i j : Bool) → every (has_cell number cells) m ≡ i → every (is_first number) m ≡ j
-          → FilingEnds number m cells (unless i (Claim·.Refused Beyond) (unless j (Claim·.Refused Taken) Claim·.Free))
+          → FilingEnds number m cells (unless i (Err Beyond) (unless j (Err Taken) (Ok tt)))
       go false j p q = beyond refl (beyond_says p)
       go true false p q = taken refl (below_says p) (twice_says q)
       go true true p q = free refl (below_says p) (apart_says q)
 
   -- 12 exactly where the number of a row has no cell
-  pub filing-beyond : filing number m cells ≡ Claim·.Refused Beyond ↔ SomeBeyond number m cells
+  pub filing-beyond : filing number m cells ≡ Err Beyond ↔ SomeBeyond number m cells
   filing-beyond = go (filing number m cells) filing-ends
     where
-      go : (r : Claim) → FilingEnds number m cells r → r ≡ Claim·.Refused Beyond ↔ SomeBeyond number m cells
+      go : (r : Result Unit Refusal) → FilingEnds number m cells r → r ≡ Err Beyond ↔ SomeBeyond number m cells
       go r (beyond z s) = (λ p. s, λ s. z)
       go r (taken z a b) = (λ p. absurd (omega (arith, ap claim_no (sym z ∙ p))), λ s. absurd (omega (arith, a s.0 s.1, s.2)))
       go r (free z a b) = (λ p. absurd (omega (arith, ap claim_no (sym z ∙ p))), λ s. absurd (omega (arith, a s.0 s.1, s.2)))
 
   -- 11 exactly where each has one and two rows bear the same
-  pub filing-taken : filing number m cells ≡ Claim·.Refused Taken ↔ AllBelow number m cells × BorneTwice number m
+  pub filing-taken : filing number m cells ≡ Err Taken ↔ AllBelow number m cells × BorneTwice number m
   filing-taken = go (filing number m cells) filing-ends
     where
-      go : (r : Claim) → FilingEnds number m cells r → r ≡ Claim·.Refused Taken ↔ AllBelow number m cells × BorneTwice number m
+      go : (r : Result Unit Refusal) → FilingEnds number m cells r → r ≡ Err Taken ↔ AllBelow number m cells × BorneTwice number m
       go r (beyond z s) = (λ p. absurd (omega (arith, ap claim_no (sym z ∙ p))), λ t. absurd (omega (arith, t.0 s.0 s.1, s.2)))
       go r (taken z a b) = (λ p. (a, b), λ t. z)
       go r (free z a n) = (λ p. absurd (omega (arith, ap claim_no (sym z ∙ p))), λ t. absurd (n t.1))
 
   -- else they can be filed
-  pub filing-free : filing number m cells ≡ Claim·.Free ↔ AllBelow number m cells × (BorneTwice number m → ⊥)
+  pub filing-free : filing number m cells ≡ Ok tt ↔ AllBelow number m cells × (BorneTwice number m → ⊥)
   filing-free = go (filing number m cells) filing-ends
     where
-      go : (r : Claim) → FilingEnds number m cells r → r ≡ Claim·.Free ↔ AllBelow number m cells × (BorneTwice number m → ⊥)
+      go : (r : Result Unit Refusal) → FilingEnds number m cells r → r ≡ Ok tt ↔ AllBelow number m cells × (BorneTwice number m → ⊥)
       go r (beyond z s) = (λ p. absurd (omega (arith, ap claim_no (sym z ∙ p))), λ t. absurd (omega (arith, t.0 s.0 s.1, s.2)))
       go r (taken z a b) = (λ p. absurd (omega (arith, ap claim_no (sym z ∙ p))), λ t. absurd (t.1 b))
       go r (free z a n) = (λ p. (a, n), λ t. z)
 
   -- the number tells which
-  pub filing-number : (claim_no (filing number m cells) ≡ 12 → filing number m cells ≡ Claim·.Refused Beyond)
-      × (claim_no (filing number m cells) ≡ 11 → filing number m cells ≡ Claim·.Refused Taken)
+  pub filing-number : (claim_no (filing number m cells) ≡ 12 → filing number m cells ≡ Err Beyond)
+      × (claim_no (filing number m cells) ≡ 11 → filing number m cells ≡ Err Taken)
   filing-number = go (filing number m cells) filing-ends
     where
-      go : (r : Claim) → FilingEnds number m cells r → (claim_no r ≡ 12 → r ≡ Claim·.Refused Beyond) × (claim_no r ≡ 11 → r ≡ Claim·.Refused Taken)
+      go : (r : Result Unit Refusal) → FilingEnds number m cells r → (claim_no r ≡ 12 → r ≡ Err Beyond) × (claim_no r ≡ 11 → r ≡ Err Taken)
       go r (beyond z s) = (λ p. z, λ p. absurd (omega (arith, ap claim_no z)))
       go r (taken z a b) = (λ p. absurd (omega (arith, ap claim_no z)), λ p. z)
       go r (free z a n) = (λ p. absurd (omega (arith, ap claim_no z)), λ p. absurd (omega (arith, ap claim_no z)))
 
   -- rows that can be filed have a right directory
-  pub filed-right : m ≤ END → filing number m cells ≡ Claim·.Free → Right number m (directory_of cells number m)
+  pub filed-right : m ≤ END → filing number m cells ≡ Ok tt → Right number m (directory_of cells number m)
   filed-right s p =
       let (a, n) = filing-free.0 p in
       right_built number cells m s a
@@ -157,6 +158,6 @@ module _ (number : ℕ → ℕ) (m cells : ℕ) where
       ap not (ne_eqb (number x) (number e) (λ q. n (x, e, omega arith, h, λ y. omega arith, q))))))
 
 -- the rows of a right directory can be filed in one that is as long
-pub right_files : (number : ℕ → ℕ) (m : ℕ) (d : List ℕ) → m ≤ END → Right number m d → filing number m (length d) ≡ Claim·.Free
+pub right_files : (number : ℕ → ℕ) (m : ℕ) (d : List ℕ) → m ≤ END → Right number m d → filing number m (length d) ≡ Ok tt
 right_files number m d s R =
     (filing-free number m (length d)).1 (λ e h. has_cell_lem number m d R s e h, λ t. t.4 (apart number m d R s t.0 t.1 t.2 t.3 t.5))

@@ -12,6 +12,8 @@ use native.Mathlib.Omega.{arith}
 use borrow.Author.Tests.{eq-eqb, ne_eqb, leb-true}
 use lib.Dec.{eqb, leb}
 use lib.ListN.{length, length-replicate}
+use Rattle.std.specs.Prelude.{Result, Ok, Err}
+use Rattle.index.specs.declared.Refusal.{Refusal}
 use Rattle.index.specs.declared.Refusal.TheVariants.{Tables, Full, Broken, NotImage, Version, Taken, Beyond}
 use Rattle.index.specs.Index.{END}
 use Rattle.index.specs.Refusals.{refusal_no}
@@ -32,8 +34,6 @@ use Rattle.directory.specs.Directory.{none, Filed, filed, register_of, RightFor,
 use Rattle.directory.proofs.Every.{right_says, right_so}
 use Rattle.directory.proofs.Laws.{directory_length}
 use Rattle.dirsound.specs.Check.{Follows}
-use Rattle.dirrows.specs.declared.parts.Claim.{Claim}
-use Rattle.dirrows.specs.declared.parts.Claim.TheVariants as Claim·
 use Rattle.dirrows.specs.Parts.{claim_no}
 use Rattle.dirimage.specs.Loading.{filing}
 use Rattle.dirimage.specs.Calls.{kept, settled_filed, filled_by, image_read_filed, image_write_filed}
@@ -45,7 +45,7 @@ settled-ends : (g h : Net) (d : List ℕ) → fits h ≡ true → is_sound h ≡
 unfolding settled_filed
 settled-ends g h d t s v = go (filing (register_of h) h.m (length d)) refl (filing-ends (register_of h) h.m (length d))
   where
-    go : (r : Claim) → filing (register_of h) h.m (length d) ≡ r → FilingEnds (register_of h) h.m (length d) r → LoadEnds (filed g d) (kept h d r)
+    go : (r : Result Unit Refusal) → filing (register_of h) h.m (length d) ≡ r → FilingEnds (register_of h) h.m (length d) r → LoadEnds (filed g d) (kept h d r)
     go r z (beyond p b) = rw p (goes Beyond (inr (inr (inr (inr (inr (inl refl)))))) (ap (λ k. out (refused Beyond tt) (filed k (none d))) v))
     go r z (taken p a b) =
         rw p (goes Taken (inr (inr (inr (inr (inr (inr (inl refl))))))) (ap (λ k. out (refused Taken tt) (filed k (none d))) v))
@@ -123,15 +123,15 @@ read_below g bytes =
     tested P (eqb (length bytes) (image_length (nodes_in bytes) (edges_in bytes))) _ _ (omega arith) (λ l.
     tested P (is_sound (loaded g bytes (nodes_in bytes) (edges_in bytes))) _ _ (omega arith) (λ s. omega arith))))))
 
-kept-number : (g : Net) (d : List ℕ) (r : Claim) → (kept g d r).answer.number ≡ claim_no r
-kept-number g d Claim·.Free = refl
-kept-number g d (Claim·.Refused why) = refl
+kept-number : (g : Net) (d : List ℕ) (r : Result Unit Refusal) → (kept g d r).answer.number ≡ claim_no r
+kept-number g d (Ok u) = refl
+kept-number g d (Err why) = refl
 
 module _ (f : Filed) (bytes : List ℕ) where
   abbrev read : Out Unit Net
   read = image_read f.net bytes
 
-  abbrev claim : Claim
+  abbrev claim : Result Unit Refusal
   claim = filing (register_of read.after) read.after.m (length f.directory)
 
   -- rows that it has brought stay where they can be filed
@@ -180,7 +180,7 @@ module _ (f : Filed) (bytes : List ℕ) where
         | no n ↦ rw (ne_eqb read.answer.number 0 n) (refl, refl)
       ]
     where
-      go : (r : Claim) → (claim_no r ≡ 12 → ⊥) → (claim_no r ≡ 11 → ⊥) → FilingEnds (register_of read.after) read.after.m (length f.directory) r
+      go : (r : Result Unit Refusal) → (claim_no r ≡ 12 → ⊥) → (claim_no r ≡ 11 → ⊥) → FilingEnds (register_of read.after) read.after.m (length f.directory) r
           → read.answer.number ≡ 0 → ((kept read.after f.directory r).answer ≡ read.answer) × ((kept read.after f.directory r).after.net ≡ read.after)
       go r n₁ n₂ (beyond p b) z = absurd (n₁ (ap claim_no p))
       go r n₁ n₂ (taken p a b) z = absurd (n₂ (ap claim_no p))

@@ -1,4 +1,5 @@
 -- The turns of the loop that enters the rows.
+use Prim.{tt}
 use Prim.Native.Nat.{ℕ, ◌+◌, ◌≤◌, ◌<◌}
 use mathlib.Core.Path.{◌≡◌, sym, ap, ◌∙◌}
 use mathlib.Core.Bool.{Bool, true, false, not, ◌&&◌}
@@ -7,11 +8,11 @@ use native.Mathlib.Numerals.{add-one}
 use native.Mathlib.Omega.{arith}
 use borrow.Author.Tests.{lt-ltb, le-ltb, not-true, not-false}
 use lib.ListN.{length, set, replicate}
+use Rattle.std.specs.Prelude.{Ok, Err}
 use Rattle.index.specs.declared.Refusal.TheVariants.{Taken, Beyond}
 use Rattle.index.specs.Index.{END, is_end}
 use Rattle.directory.specs.Directory.{entry, every, directory_of}
 use Rattle.directory.proofs.Every.{every_more, not_every}
-use Rattle.dirrows.specs.declared.parts.Claim.TheVariants as Claim·
 use Rattle.dirimage.specs.Loading.{has_cell, is_first, filing}
 use Rattle.dirimage.proofs.Filing.{none-borne}
 
@@ -38,7 +39,7 @@ module _ (number : ℕ → ℕ) (cells e : ℕ) where
 
 module _ (number : ℕ → ℕ) (m cells e : ℕ) where
   -- it has no cell
-  pub no_cell : e < m → cells ≤ number e → Claim·.Refused Beyond ≡ filing number m cells
+  pub no_cell : e < m → cells ≤ number e → Err Beyond ≡ filing number m cells
   unfolding filing
   no_cell h l = rw (not_every (has_cell number cells) m e h (le-ltb (number e) cells l))
 
@@ -47,11 +48,11 @@ module _ (number : ℕ → ℕ) (m cells e : ℕ) where
     is : e ≡ m
     is = omega arith
 
-    pub not_apart : not apart ≡ true → Claim·.Refused Taken ≡ filing number m cells
+    pub not_apart : not apart ≡ true → Err Taken ≡ filing number m cells
     unfolding filing
     not_apart n = rw (rw is at p, rw is at (sym a), not-true apart n)
 
-    pub all_apart : not apart ≡ false → Claim·.Free ≡ filing number m cells
+    pub all_apart : not apart ≡ false → Ok tt ≡ filing number m cells
     unfolding filing
     all_apart n = rw (rw is at p, rw is at (sym a), not-false apart n)
 

@@ -1,14 +1,13 @@
 -- Images of a network with a directory: what the call without one tells and leaves, and what the directory adds.
 use Prim.{Unit, tt}
-use Rattle.std.specs.Prelude.{ℕ, cond, List, eqb, length}
+use Rattle.std.specs.Prelude.{ℕ, cond, List, eqb, length, Result, Ok, Err}
+use Rattle.index.specs.declared.Refusal.{Refusal}
 use Rattle.index.specs.declared.Refusal.TheVariants.{Tables, Broken}
 use Rattle.tables.specs.Net.{Net, fits}
 use Rattle.tables.specs.Answers.{Out, out, done, refused, unless}
 use Rattle.loading.specs.Loading.{vacated}
 use Rattle.image.specs.Calls.{image_write, image_read}
 use Rattle.directory.specs.Directory.{none, directory_of, Filed, filed, register_of, is_right_for}
-use Rattle.dirrows.specs.declared.parts.Claim.{Claim}
-use Rattle.dirrows.specs.declared.parts.Claim.TheVariants as Claim·
 use Rattle.dirimage.specs.Loading.{filing}
 
 -- the image into an output table: 1, 6 where the directory is not right, then as without a directory: 6, 7
@@ -19,9 +18,9 @@ image_write_filed f bytes =
     (image_write f.net bytes))
 
 -- the rows that a load has brought stay, with their directory; refused, nothing is left of them and every entry is none
-abbrev pub kept : Net → List ℕ → Claim → Out Unit Filed
-kept g directory Claim·.Free = out (done tt) (filed g (directory_of (length directory) (register_of g) g.m))
-kept g directory (Claim·.Refused why) = out (refused why tt) (filed (vacated g) (none directory))
+abbrev pub kept : Net → List ℕ → Result Unit Refusal → Out Unit Filed
+kept g directory (Ok u) = out (done tt) (filed g (directory_of (length directory) (register_of g) g.m))
+kept g directory (Err why) = out (refused why tt) (filed (vacated g) (none directory))
 
 -- they stay where they can be filed: 12, 11
 unfoldable pub settled_filed : Net → List ℕ → Out Unit Filed

@@ -2,7 +2,7 @@
 #![tactic(auto)]
 
 ghost use Rattle.std.specs.Prelude.{◌≡◌};
-ghost use Rattle.tables.specs.Net.{entering, leaving};
+ghost use Rattle.tables.specs.Net.{entering, leaving, net_of};
 ghost use Rattle.tables.specs.Answers.{out, told_items, told_change};
 ghost use Rattle.directory.specs.Directory.{filed};
 ghost use Rattle.dirimage.specs.Calls.{image_write_filed, image_read_filed};
@@ -10,33 +10,22 @@ ghost use Rattle.dirimage.specs.Calls.{image_write_filed, image_read_filed};
 use directory::parts::is_right;
 use index::Refusal;
 use parts::fill_by;
-use tables::parts::fits;
-use tables::{Changed, Items};
+use tables::Network;
 
 pub mod parts;
 
 // The network's image at the front of `bytes`; its length. A directory that is not right is refused as broken links are.
-pub fn image_write(
-    weights: &[i32],
-    heads: &[u32],
-    registers: &[u32],
-    links: &[u32],
-    ends: &[u32],
-    n: u32,
-    m: u32,
-    directory: &[u32],
-    bytes: &mut [u8],
-) -> Items
-    ensures { out (told_items result) bytes.new
-        ≡ image_write_filed (filed (entering weights.now heads.now registers.now links.now ends.now n m) directory.now) bytes.old }
+#[tactic(auto, using(tables::proofs::Guards::guards, tables::proofs::Laws::fitting), unfolding(crate::specs::Calls::image_write_filed))]
+pub fn image_write(net: Network, directory: &[u32], bytes: &mut [u8]) -> Result<u32, Refusal>
+    ensures { out (told_items result) bytes.new ≡ image_write_filed (filed (net_of net.entry) directory.now) bytes.old }
 {
-    if !fits(weights, heads, registers, links, ends, n, m) {
-        return Items::Refused(Refusal::Tables);
+    if !net.fits() {
+        return Err(Refusal::Tables);
     }
-    if !is_right(registers, m, directory) {
-        return Items::Refused(Refusal::Broken);
+    if !is_right(net.registers, net.m, directory) {
+        return Err(Refusal::Broken);
     }
-    image::image_write(weights, heads, registers, links, ends, n, m, bytes)
+    image::image_write(net, bytes)
 }
 
 // The network that an image has, in place of the one lent; the directory becomes that of its rows. What the directory held before is not read.
@@ -50,7 +39,7 @@ pub fn image_read(
     m: &mut u32,
     directory: &mut [u32],
     bytes: &[u8],
-) -> Changed
+) -> Result<(), Refusal>
     ensures { out (told_change result) (filed (leaving weights.new heads.new registers.new links.new ends.new n.new m.new) directory.new)
         ≡ image_read_filed (filed (entering weights.old heads.old registers.old links.old ends.old n.old m.old) directory.old) bytes.now }
 {

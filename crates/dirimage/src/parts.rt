@@ -8,61 +8,54 @@ ghost use Rattle.dirimage.specs.Calls.{entries_left, filled_by};
 ghost use Rattle.dirimage.specs.Parts.{Enters, Files, LeavesFit};
 
 use directory::parts::{enter, entry};
-use dirrows::parts::Claim;
 use index::{EdgeIndex, Refusal};
 use loading::parts::empty;
-use tables::Changed;
-use tables::parts::fill;
 
 // The rows are entered in turn. A number without a cell is 12 at once; one that is borne twice is 11, but only once every number has a cell.
-fn enter_rows(registers: &[u32], m: u32, directory: &mut [u32]) -> Claim
+fn enter_rows(registers: &[u32], m: u32, directory: &mut [u32]) -> Result<(), Refusal>
     requires { m ≤ length registers.now }
     ensures { Enters (register_in registers.now) m (loan directory.old directory.new) result }
 {
-    fill(directory, EdgeIndex::END.0);
+    directory.fill(EdgeIndex::END.0);
     let mut apart = true;
-    let mut e: u32 = 0;
-    while e < m {
+    for e in 0..m {
         let r = registers[e as usize];
         if directory.len() <= r as usize {
-            return Claim::Refused(Refusal::Beyond);
+            return Err(Refusal::Beyond);
         }
-        let found = entry(directory, r);
-        apart = apart & found.is_end();
+        apart &= entry(directory, r).is_end();
         enter(directory, r, EdgeIndex(e));
-        e += 1;
     }
     if !apart {
-        return Claim::Refused(Refusal::Taken);
+        return Err(Refusal::Taken);
     }
-    Claim::Free
+    Ok(())
 }
 
 // The directory becomes that of the rows; refused 12, 11, every entry is none.
-fn file(registers: &[u32], m: u32, directory: &mut [u32]) -> Claim
+fn file(registers: &[u32], m: u32, directory: &mut [u32]) -> Result<(), Refusal>
     requires { m ≤ length registers.now }
     ensures { Files (register_in registers.now) m (loan directory.old directory.new) result }
 {
-    let free = enter_rows(registers, m, directory);
-    let Claim::Free = free else {
-        fill(directory, EdgeIndex::END.0);
-        return free;
-    };
-    Claim::Free
+    let claim = enter_rows(registers, m, directory);
+    if claim.is_err() {
+        directory.fill(EdgeIndex::END.0);
+    }
+    claim
 }
 
 // What a load that is refused without a directory leaves of the entries: 6 has emptied the network, and takes them along.
 fn leave_entries(directory: &mut [u32], why: Refusal)
     ensures { directory.new ≡ entries_left (refusal_no why) directory.old }
 {
-    if why.number() != Refusal::Broken.number() {
-        return;
+    if why == Refusal::Broken {
+        directory.fill(EdgeIndex::END.0);
     }
-    fill(directory, EdgeIndex::END.0);
 }
 
 // What the load without a directory has told decides. Refused: the entries go where 6 has emptied the network, and stay else.
 // Served: the rows stay if they can be filed; if not, nothing is left of rows or entries.
+#[tactic(auto, using(tables::proofs::Guards::guards, tables::proofs::Laws::fitting), unfolding(crate::specs::Calls::settled_filed))]
 pub fn fill_by(
     weights: &mut [i32],
     heads: &mut [u32],
@@ -72,25 +65,21 @@ pub fn fill_by(
     n: &mut u32,
     m: &mut u32,
     directory: &mut [u32],
-    told: Changed,
-) -> Changed
+    told: Result<(), Refusal>,
+) -> Result<(), Refusal>
     requires { LeavesFit told (length weights.old) (length heads.old) (length registers.old) (length links.old) (length ends.old) n.old m.old }
     ensures { out (told_change result) (filed (leaving weights.new heads.new registers.new links.new ends.new n.new m.new) directory.new)
         ≡ filled_by directory.old (out (told_change told) (entering weights.old heads.old registers.old links.old ends.old n.old m.old)) }
 {
-    match told {
-        Changed::Refused(why) => {
-            leave_entries(directory, why);
-            Changed::Refused(why)
-        }
-        Changed::Done => match file(registers, *m, directory) {
-            Claim::Refused(why) => {
-                empty(weights, heads, registers, links, ends);
-                *n = 0;
-                *m = 0;
-                Changed::Refused(why)
-            }
-            Claim::Free => Changed::Done,
-        },
+    if let Err(why) = told {
+        leave_entries(directory, why);
+        return Err(why);
     }
+    let claim = file(registers, *m, directory);
+    if claim.is_err() {
+        empty(weights, heads, registers, links, ends);
+        *n = 0;
+        *m = 0;
+    }
+    claim
 }
