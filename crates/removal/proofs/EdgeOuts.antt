@@ -11,6 +11,7 @@ use native.Mathlib.Omega.{arith}
 use borrow.Author.Tests.{eq-eqb, ne_eqb, lt-ltb, ltb-true}
 use lib.Dec.{eqb, ltb}
 use lib.ListN.{length, get_or}
+use Rattle.std.specs.Prelude.{Option, Some, None}
 use Rattle.index.specs.Index.{END}
 use Rattle.tables.specs.Net.{Net, fits}
 use Rattle.tables.specs.Answers.{out, done}
@@ -24,8 +25,6 @@ use Rattle.sound.proofs.Same.{counts, members}
 use Rattle.sound.proofs.Exactly.{small}
 use Rattle.sound.proofs.Kept.{fit_of, HasLists}
 use Rattle.links.specs.declared.Located.{Located}
-use Rattle.links.specs.declared.Located.TheVariants as Located·
-use Rattle.links.specs.declared.Search.TheVariants as Search·
 use Rattle.links.specs.Links.{searched, led}
 use Rattle.removal.specs.Removal.{Gone, on_place, place_of, bypassed, last_out, last_into, last_moved, gone, taken_out, remove_edge}
 use Rattle.removal.specs.Lists.{pos, renamed, left, less_edge, rows_before, rows_read, Freed, EdgeOut}
@@ -48,13 +47,13 @@ leader g ls x k = spot_of x (Head (end_at g k x)) (ls k (end_at g k x))
 
 -- another edge x is found, and the links to it can be led elsewhere
 module _ (g : Net) (ls : ℕ → ℕ → List ℕ) (e : ℕ) (f : fits g ≡ true) (B : Lacks g ls e) (x : ℕ) (lt : x < g.m) (d : x ≡ e → ⊥) where
-  placed : place_of g x ≡ Located·.At (leader g ls x 0) (leader g ls x 1) (rows_before (end_at g) ls x)
+  placed : place_of g x ≡ Some (record { outgoing = leader g ls x 0; incoming = leader g ls x 1; rows = rows_before (end_at g) ls x })
   placed =
       located-at g.heads g.links g.ends g.n g.m x (leader g ls x 0) (leader g ls x 1) (pos x (ls 0 (end_at g 0 x))) (pos x (ls 1 (end_at g 1 x)))
       (at 0 (omega arith))
       (at 1 (omega arith))
     where
-      at : (k : ℕ) → k < 2 → searched (link_at g k) (end_at g k) g.n g.m x ≡ Search·.At (leader g ls x k) (pos x (ls k (end_at g k x)))
+      at : (k : ℕ) → k < 2 → searched (link_at g k) (end_at g k) g.n g.m x ≡ Some (leader g ls x k, pos x (ls k (end_at g k x)))
       at k h =
           let b = (B k h).has_end x lt in
           found_at (link_at g k) g.m x (small g f) (end_at g k) g.n (ls k (end_at g k x)) b ((B k h).chain (end_at g k x) b) ((B k h).listed x lt d)
@@ -90,7 +89,7 @@ module _ (g : Net) (ls : ℕ → ℕ → List ℕ) (e : ℕ) (f : fits g ≡ tru
   all k h = whole g.n g.m (small g f) (link_at g k) (end_at g k) (ls k) (members g ls (small g f) S k h)
 
   -- e is found, and bypassed
-  found : place_of g e ≡ Located·.At (leader g ls e 0) (leader g ls e 1) (rows_before (end_at g) ls e)
+  found : place_of g e ≡ Some (record { outgoing = leader g ls e 0; incoming = leader g ls e 1; rows = rows_before (end_at g) ls e })
   found = placed g ls g.m f all e lt (omega arith)
 
   unfoldable pub cut : Net
@@ -216,10 +215,10 @@ unfolding remove_edge
 edge-out g ls e f S lt = rw (f, lt-ltb e g.m lt) (taken_out_lem g ls e f S lt)
 
 -- what the searches come to, found or lost
-pub by_place : (P : Gone → Type 0) (w : Located) (found : Spot → Spot → ℕ → Gone) (lost : Gone) → ((s t : Spot) (rows : ℕ) → P (found s t rows)) → P lost
+pub by_place : (P : Gone → Type 0) (w : Option Located) (found : Spot → Spot → ℕ → Gone) (lost : Gone) → ((s t : Spot) (rows : ℕ) → P (found s t rows)) → P lost
     → P (on_place w found lost)
-by_place P (Located·.At s t rows) found lost p q = p s t rows
-by_place P Located·.Lost found lost p q = q
+by_place P (Some place) found lost p q = p place.outgoing place.incoming place.rows
+by_place P None found lost p q = q
 
 pub edge-refused : (g : Net) (e : ℕ) → ((remove_edge g e).answer.number ≡ 0 → ⊥) → (remove_edge g e).after ≡ g
 unfolding remove_edge taken_out gone last_moved

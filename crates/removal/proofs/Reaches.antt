@@ -4,19 +4,15 @@ use mathlib.Core.Path.{◌≡◌, refl, sym, ◌∙◌}
 use mathlib.Core.List.{List}
 use native.Mathlib.Omega.{arith}
 use lib.ListN.{length}
+use Rattle.std.specs.Prelude.{Option, Some, None}
+use Rattle.std.proofs.lemmas.Option.{none-some, same_Some}
 use Rattle.lists.specs.declared.Spot.{Spot}
 use Rattle.lists.specs.Walk.{cell, link_in}
-use Rattle.links.specs.declared.Search.{Search}
-use Rattle.links.specs.declared.Search.TheVariants.{At, Lost}
 use Rattle.links.specs.declared.Located.{Located}
-use Rattle.links.specs.declared.Located.TheVariants as Located·
-use Rattle.links.specs.Links.{located}
+use Rattle.links.specs.Links.{Search, located}
 use Rattle.links.specs.Parts.{Within, Places}
 use Rattle.links.proofs.Hits.{found, searched-hit, located-at, located-lost, located_lost_2, place_of, Spot·}
 use Rattle.removal.specs.Parts.{Removable}
-
-not_at : (s t : Spot) (q : ℕ) → Located·.Lost ≡ Located·.At s t q → ⊥
-not_at s t q h = let z : ◌≡◌ {A = ℕ} 0 1 = cc in omega arith
 
 -- links at s and t, spots of n nodes and m edges, lead to e, and few rows were read to find them
 pub record Reached (heads links : List ℕ) (n m e : ℕ) (s t : Spot) (rows : ℕ) : Type 0 where
@@ -27,30 +23,28 @@ pub record Reached (heads links : List ℕ) (n m e : ℕ) (s t : Spot) (rows : �
   pub few : rows ≤ m + m
 
 -- an edge that is found in both lists
-pub reached : (heads links ends : List ℕ) (n m e : ℕ) (r : Located) (s t : Spot) (rows : ℕ) → r ≡ located heads links ends n m e → r ≡ Located·.At s t rows
-    → Reached heads links n m e s t rows
-reached heads links ends n m e r s t rows told at = go (found heads links ends n m e 0) (found heads links ends n m e 1) refl refl
+pub reached : (heads links ends : List ℕ) (n m e : ℕ) (r : Option Located) (place : Located) → r ≡ located heads links ends n m e → r ≡ Some place
+    → Reached heads links n m e place.outgoing place.incoming place.rows
+reached heads links ends n m e r place told at = go (found heads links ends n m e 0) (found heads links ends n m e 1) refl refl
   where
-    is : located heads links ends n m e ≡ Located·.At s t rows
+    is : located heads links ends n m e ≡ Some place
     is = sym told ∙ at
 
-    go : (f g : Search) → found heads links ends n m e 0 ≡ f → found heads links ends n m e 1 ≡ g → Reached heads links n m e s t rows
-    go (At s' q) (At t' r) p w =
-        let z : Located·.At s' t' (q + r) ≡ Located·.At s t rows = sym (located-at heads links ends n m e s' t' q r p w) ∙ is in
-        let zs : s' ≡ s = cc in
-        let zt : t' ≡ t = cc in
-        let zr : q + r ≡ rows = cc in
-        let f = searched-hit (link_in heads links 0) (cell ends 0) n m e s' q p in
-        let g = searched-hit (link_in heads links 1) (cell ends 1) n m e t' r w in
-        record {
-          outgoing_leads = rw zs at f.link;
-          incoming_leads = rw zt at g.link;
-          outgoing_spot = rw zs at f.spot;
-          incoming_spot = rw zt at g.spot;
+    go : (f g : Search) → found heads links ends n m e 0 ≡ f → found heads links ends n m e 1 ≡ g
+        → Reached heads links n m e place.outgoing place.incoming place.rows
+    go (Some (s, q)) (Some (t, r)) p w =
+        let z = same_Some _ _ (sym (located-at heads links ends n m e s t q r p w) ∙ is) in
+        let f = searched-hit (link_in heads links 0) (cell ends 0) n m e s q p in
+        let g = searched-hit (link_in heads links 1) (cell ends 1) n m e t r w in
+        rw (← z) (record {
+          outgoing_leads = f.link;
+          incoming_leads = g.link;
+          outgoing_spot = f.spot;
+          incoming_spot = g.spot;
           few = omega (arith, f.few, g.few);
-        }
-    go (At s' q) Lost p w = absurd (not_at s t rows (sym (located_lost_2 heads links ends n m e s' q p w) ∙ is))
-    go Lost g p w = absurd (not_at s t rows (sym (located-lost heads links ends n m e p) ∙ is))
+        })
+    go (Some (s, q)) None p w = absurd (none-some _ (sym (located_lost_2 heads links ends n m e s q p w) ∙ is))
+    go None g p w = absurd (none-some _ (sym (located-lost heads links ends n m e p) ∙ is))
 
 -- the columns have its spots, and still do with other links of as many cells
 pub places_kept : {heads links : List ℕ} {heads' links' ends n m e rows : ℕ} {s t : Spot} → Within (length heads) (length links) ends n m e

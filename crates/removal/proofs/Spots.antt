@@ -9,13 +9,13 @@ use native.Mathlib.Decide.{ℕ_discrete}
 use native.Mathlib.Omega.{arith}
 use borrow.Author.Tests.{eq-eqb, ne_eqb, lt-ltb}
 use lib.Dec.{eqb}
+use Rattle.std.specs.Prelude.{Some}
 use Rattle.index.specs.Index.{END}
 use Rattle.lists.specs.declared.Spot.{Spot}
 use Rattle.lists.specs.declared.Spot.TheVariants.{Head, After}
 use Rattle.lists.specs.Chain.{Chain, In}
 use Rattle.lists.proofs.Chains.{fresh, chain_length}
 use Rattle.sound.proofs.Listings.{in_tail}
-use Rattle.links.specs.declared.Search.TheVariants.{At}
 use Rattle.links.specs.Links.{seek, searched}
 use Rattle.removal.specs.Lists.{pos}
 use Rattle.links.proofs.Seeks.{seek_found, seek-on}
@@ -45,7 +45,7 @@ module _ (lk : Spot → ℕ) (m e : ℕ) where
       ]
 
   found : (left : ℕ) (s : Spot) (rows : ℕ) (xs : List ℕ) → Chain lk m s xs → In e xs → pos e xs ≤ left
-      → seek lk m e left s rows ≡ At (spot_of e s xs) (rows + pos e xs)
+      → seek lk m e left s rows ≡ Some (spot_of e s xs, rows + pos e xs)
   found left s rows [] c i l = absurd i
   found zero s rows (x ∷ xs) c i l =
       elim (ℕ_discrete x e) [
@@ -65,7 +65,7 @@ module _ (lk : Spot → ℕ) (m e : ℕ) where
   module _ (small : m ≤ END) where
     -- the search for a member of its node's list
     pub found_at : (node : ℕ → ℕ) (n : ℕ) (xs : List ℕ) → node e < n → Chain lk m (Head (node e)) xs → In e xs
-        → searched lk node n m e ≡ At (spot_of e (Head (node e)) xs) (pos e xs)
+        → searched lk node n m e ≡ Some (spot_of e (Head (node e)) xs, pos e xs)
     unfolding searched
     found_at node n xs h c i =
         let s = Head (node e) in

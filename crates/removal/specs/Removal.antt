@@ -1,37 +1,41 @@
 -- Taking an edge out, on any tables: four searches at the most, and a failure changes nothing.
-use Rattle.std.specs.Prelude.{ℕ, ◌+◌, ◌-◌, cond, eqb, ltb, get_or}
+use Rattle.std.specs.Prelude.{ℕ, ◌+◌, ◌-◌, cond, eqb, ltb, get_or, Option, Some, None, Result}
+use Rattle.index.specs.declared.EdgeIndex.{EdgeIndex}
+use Rattle.index.specs.declared.Refusal.{Refusal}
 use Rattle.index.specs.declared.Refusal.TheVariants.{Tables, NoEdge, Broken}
 use Rattle.index.specs.Index.{END}
 use Rattle.tables.specs.Net.{Net, fits, with_counts}
 use Rattle.tables.specs.Rows.{vacant_edge, edge_row, with_edge}
-use Rattle.tables.specs.Answers.{Told, Out, out, done, refused, unless}
+use Rattle.tables.specs.Answers.{Told, Out, out, done, refused, unless, told_as}
 use Rattle.lists.specs.declared.Spot.{Spot}
 use Rattle.lists.specs.declared.Spot.TheVariants.{After}
 use Rattle.lists.specs.Walk.{link_at}
 use Rattle.links.specs.declared.Located.{Located}
-use Rattle.links.specs.declared.Located.TheVariants as Located·
-use Rattle.removal.specs.declared.EdgeRemoved.{EdgeRemoved}
-use Rattle.removal.specs.declared.EdgeRemoved.TheVariants as EdgeRemoved·
+use Rattle.removal.specs.declared.removed.RemovedEdge.{RemovedEdge}
 use Rattle.links.specs.Links.{located, led}
 
 -- e's weight, the old number of the row that moved (`END` for none), the rows read
 abbrev pub Gone : Type 0
 Gone = Out (ℕ × ℕ × ℕ) Net
 
-abbrev pub told_edge_removed : EdgeRemoved → Told (ℕ × ℕ × ℕ)
-told_edge_removed (EdgeRemoved·.Edge w moved rows) = done (w, moved.0, rows)
-told_edge_removed (EdgeRemoved·.Refused why) = refused why (0, 0, 0)
+-- the number of the row that moved
+abbrev pub moved_no : Option EdgeIndex → ℕ
+moved_no (Some e) = e.0
+moved_no None = END
+
+abbrev pub told_edge_removed : Result RemovedEdge Refusal → Told (ℕ × ℕ × ℕ)
+told_edge_removed = told_as (λ (x : RemovedEdge). (x.weight, moved_no x.moved, x.rows)) (0, 0, 0)
 
 -- what is told of a removal's weight alone, an edge's or a node's
 abbrev pub weight_told : {A B C : Type 0} → Told (A × B × C) → Told A
 weight_told t = record { number = t.number; values = t.values.0 }
 
 -- what the searches for an edge of a network come to
-abbrev pub on_place : {A : Type 0} → Located → (Spot → Spot → ℕ → A) → A → A
-on_place (Located·.At s t rows) found lost = found s t rows
-on_place Located·.Lost found lost = lost
+abbrev pub on_place : {A : Type 0} → Option Located → (Spot → Spot → ℕ → A) → A → A
+on_place (Some place) found lost = found place.outgoing place.incoming place.rows
+on_place None found lost = lost
 
-abbrev pub place_of : Net → ℕ → Located
+abbrev pub place_of : Net → ℕ → Option Located
 place_of g e = located g.heads g.links g.ends g.n g.m e
 
 -- e is bypassed: the links that led to it lead to its next

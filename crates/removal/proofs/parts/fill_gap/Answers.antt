@@ -7,20 +7,20 @@ use Rattle.removal.proofs.parts.fill_gap.Goals as goal
 pub overflow_add-result : goal.overflow_add-result
 overflow_add-result c =
     let p = c.requires in
-    let w = reached _ _ _ _ _ _ _ _ _ _ c.change_edge_links.ensures.answer_is c.in-At.is in
+    let w = reached _ _ _ _ _ _ _ _ c.change_edge_links.ensures.answer_is c.in-Some.is in
     record { fits = omega (arith, w.few, p.few, p.removable.within.edges_most) }
 
-pub returns-in-Lost : goal.returns-in-Lost
-returns-in-Lost c =
+pub returns-in_default : goal.returns-in_default
+returns-in_default c =
     λ W.
     let f = c.change_edge_links.ensures in
     let h = c.lead.ensures in
-    last_lost W _ _ _ _ _ _ _ _ _ _ _ _ _ f.answer_is f.heads_are f.links_are _ _ c.in-Lost.is h.heads_are h.links_are
+    last_lost W _ _ _ _ _ _ _ _ _ _ _ _ _ f.answer_is f.heads_are f.links_are _ _ c.in_default.is h.heads_are h.links_are
 
-pub returns-in-At : goal.returns-in-At
-returns-in-At c =
+pub returns : goal.returns
+returns c =
     λ W.
     let f = c.change_edge_links.ensures in
     let h = c.move_last.ensures in
-    last_moves W _ _ _ _ _ _ _ _ _ _ _ _ _ f.answer_is f.heads_are f.links_are _ _ _ _ _ _ _ c.in-At.is c.index.ensures
+    last_moves W _ _ _ _ _ _ _ _ _ _ _ _ _ f.answer_is f.heads_are f.links_are _ _ _ _ _ c.in-Some.is c.index.ensures
     h.registers_are h.links_are h.ends_are
