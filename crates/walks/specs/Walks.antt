@@ -1,12 +1,14 @@
 -- The walks along both lists of a node, into output tables.
-use Rattle.std.specs.Prelude.{ℕ, not, ◌&&◌, List, ◌++◌, ltb}
+use Rattle.std.specs.Prelude.{ℕ, ◌-◌, not, ◌&&◌, List, ◌++◌, ltb}
 use Rattle.index.specs.declared.Refusal.TheVariants.{Tables, Broken}
 use Rattle.tables.specs.Net.{Net, fits}
 use Rattle.tables.specs.Answers.{Out, out, done, refused, unless, give}
+use Rattle.lists.specs.declared.Pick.{Pick}
 use Rattle.lists.specs.declared.Pick.TheVariants.{Every, To, ToNot}
+use Rattle.lists.specs.declared.Item.{Item}
 use Rattle.lists.specs.declared.Item.TheVariants.{Far, Weight}
 use Rattle.lists.specs.Walk.{picks, broken, around}
-use Rattle.legs.specs.Legs.{Tables3, give_three}
+use Rattle.legs.specs.Legs.{leg_at, legs_told, Tables3, give_three}
 
 -- both lists are settled before the room for the items is tested; a missing node has no items
 abbrev pub walked : {S : Type 0} → Net → ℕ → S → Out ℕ S → Out ℕ S
@@ -34,3 +36,10 @@ edges_mut g a table = walked g a table (give (picks g 1 Every a ++ picks g 0 Eve
 -- number, source and target, the ends of incoming edges turned round
 unfoldable pub edges : Net → ℕ → Tables3 → Out ℕ Tables3
 edges g a t = walked g a t (give_three (λ item. around g item a) t)
+
+-- the items of two legs from node a's heads, the first in direction k and the second in the other: what each walk into one table is
+unfoldable pub walked_legs : Net → ℕ → Item → ℕ → Pick → Pick → List ℕ → Out ℕ (List ℕ)
+walked_legs g a item k first second table =
+    unless (fits g) (out (refused Tables 0) table)
+    (unless (ltb a g.n) (out (done 0) table)
+    (legs_told g.registers g.links g.ends g.m item (leg_at g.heads k first a) (leg_at g.heads (1 - k) second a) table))

@@ -2,189 +2,129 @@
 // A missing node has no items. Both lists are settled before anything is written: 6 comes before 7.
 #![tactic(auto)]
 
-ghost use Rattle.std.specs.Prelude.{◌≡◌};
-ghost use Rattle.tables.specs.Net.{entering};
+ghost use Rattle.std.specs.Prelude.{◌≡◌, ◌-◌, ◌<◌};
+ghost use Rattle.tables.specs.Net.{net_of};
 ghost use Rattle.tables.specs.Answers.{out, told_items};
-ghost use Rattle.walks.specs.Walks.{neighbors, edges, edge_weights, edges_between, edges_mut};
+ghost use Rattle.walks.specs.Walks.{neighbors, edges, edge_weights, edges_between, edges_mut, walked_legs};
 ghost use Rattle.legs.specs.Legs.{tables3};
 
 use index::{NodeIndex, Refusal};
 use legs::parts::{along, walk, walk_edges};
 use lists::{Item, Pick};
-use tables::Items;
-use tables::parts::{INCOMING, OUTGOING, fits};
+use tables::Network;
+use tables::parts::{INCOMING, OUTGOING};
+
+// The item of each row that a walk takes of node a's list in direction k, then of its other list.
+#[tactic(auto, using(tables::proofs::Guards::guards, tables::proofs::Laws::fitting), unfolding(crate::specs::Walks::walked_legs))]
+fn walk_around(
+    net: Network,
+    a: NodeIndex,
+    item: Item,
+    k: usize,
+    first: Pick,
+    second: Pick,
+    items: &mut [u32],
+) -> Result<u32, Refusal>
+    requires { k < 2 }
+    ensures { out (told_items result) items.new ≡ walked_legs (net_of net.entry) a.0 item k first second items.old }
+{
+    if !net.fits() {
+        return Err(Refusal::Tables);
+    }
+    if net.n <= a.0 {
+        return Ok(0);
+    }
+    let first = along(net.heads, a, k, first);
+    let second = along(net.heads, a, 1 - k, second);
+    walk(
+        net.registers,
+        net.links,
+        net.ends,
+        net.m,
+        item,
+        first,
+        second,
+        items,
+    )
+}
 
 // The far ends of the outgoing list, then those of the incoming list without self-loops.
-pub fn neighbors(
-    weights: &[i32],
-    heads: &[u32],
-    registers: &[u32],
-    links: &[u32],
-    ends: &[u32],
-    n: u32,
-    m: u32,
-    a: NodeIndex,
-    items: &mut [u32],
-) -> Items
-    ensures { out (told_items result) items.new ≡ neighbors (entering weights.now heads.now registers.now links.now ends.now n m) a.0 items.old }
+#[tactic(auto, unfolding(crate::specs::Walks::neighbors, crate::specs::Walks::walked_legs))]
+pub fn neighbors(net: Network, a: NodeIndex, items: &mut [u32]) -> Result<u32, Refusal>
+    ensures { out (told_items result) items.new ≡ neighbors (net_of net.entry) a.0 items.old }
 {
-    if !fits(weights, heads, registers, links, ends, n, m) {
-        return Items::Refused(Refusal::Tables);
-    }
-    if n <= a.0 {
-        return Items::Count(0);
-    }
-    let first = along(heads, a, OUTGOING, Pick::Every);
-    let second = along(heads, a, INCOMING, Pick::NotTo(a));
-    walk(registers, links, ends, m, Item::Far, first, second, items)
+    let inward = Pick::NotTo(a);
+    walk_around(net, a, Item::Far, OUTGOING, Pick::Every, inward, items)
 }
 
 // The register numbers of the same edges.
-pub fn edge_weights(
-    weights: &[i32],
-    heads: &[u32],
-    registers: &[u32],
-    links: &[u32],
-    ends: &[u32],
-    n: u32,
-    m: u32,
-    a: NodeIndex,
-    items: &mut [u32],
-) -> Items
-    ensures { out (told_items result) items.new ≡ edge_weights (entering weights.now heads.now registers.now links.now ends.now n m) a.0 items.old }
+#[tactic(auto, unfolding(crate::specs::Walks::edge_weights, crate::specs::Walks::walked_legs))]
+pub fn edge_weights(net: Network, a: NodeIndex, items: &mut [u32]) -> Result<u32, Refusal>
+    ensures { out (told_items result) items.new ≡ edge_weights (net_of net.entry) a.0 items.old }
 {
-    if !fits(weights, heads, registers, links, ends, n, m) {
-        return Items::Refused(Refusal::Tables);
-    }
-    if n <= a.0 {
-        return Items::Count(0);
-    }
-    let first = along(heads, a, OUTGOING, Pick::Every);
-    let second = along(heads, a, INCOMING, Pick::NotTo(a));
-    walk(
-        registers,
-        links,
-        ends,
-        m,
-        Item::Weight,
-        first,
-        second,
-        items,
-    )
+    let inward = Pick::NotTo(a);
+    walk_around(net, a, Item::Weight, OUTGOING, Pick::Every, inward, items)
 }
 
 // The numbers of those whose far end is b.
+#[tactic(auto, using(crate::proofs::Calls::between_told))]
 pub fn edges_between(
-    weights: &[i32],
-    heads: &[u32],
-    registers: &[u32],
-    links: &[u32],
-    ends: &[u32],
-    n: u32,
-    m: u32,
+    net: Network,
     a: NodeIndex,
     b: NodeIndex,
     items: &mut [u32],
-) -> Items
-    ensures { out (told_items result) items.new ≡ edges_between (entering weights.now heads.now registers.now links.now ends.now n m) a.0 b.0 items.old }
+) -> Result<u32, Refusal>
+    ensures { out (told_items result) items.new ≡ edges_between (net_of net.entry) a.0 b.0 items.old }
 {
-    if !fits(weights, heads, registers, links, ends, n, m) {
-        return Items::Refused(Refusal::Tables);
-    }
-    if n <= a.0 {
-        return Items::Count(0);
-    }
-    let first = along(heads, a, OUTGOING, Pick::To(b));
-    let second = along(heads, a, INCOMING, Pick::ToNot(b, a));
-    walk(
-        registers,
-        links,
-        ends,
-        m,
-        Item::Number,
-        first,
-        second,
-        items,
-    )
+    let (outward, inward) = (Pick::To(b), Pick::ToNot(b, a));
+    walk_around(net, a, Item::Number, OUTGOING, outward, inward, items)
 }
 
 // The numbers of all edges, incoming ones first; a self-loop comes twice.
-pub fn edges_mut(
-    weights: &[i32],
-    heads: &[u32],
-    registers: &[u32],
-    links: &[u32],
-    ends: &[u32],
-    n: u32,
-    m: u32,
-    a: NodeIndex,
-    items: &mut [u32],
-) -> Items
-    ensures { out (told_items result) items.new ≡ edges_mut (entering weights.now heads.now registers.now links.now ends.now n m) a.0 items.old }
+#[tactic(auto, using(crate::proofs::Calls::mut_told))]
+pub fn edges_mut(net: Network, a: NodeIndex, items: &mut [u32]) -> Result<u32, Refusal>
+    ensures { out (told_items result) items.new ≡ edges_mut (net_of net.entry) a.0 items.old }
 {
-    if !fits(weights, heads, registers, links, ends, n, m) {
-        return Items::Refused(Refusal::Tables);
-    }
-    if n <= a.0 {
-        return Items::Count(0);
-    }
-    let first = along(heads, a, INCOMING, Pick::Every);
-    let second = along(heads, a, OUTGOING, Pick::Every);
-    walk(
-        registers,
-        links,
-        ends,
-        m,
-        Item::Number,
-        first,
-        second,
-        items,
-    )
+    let every = Pick::Every;
+    walk_around(net, a, Item::Number, INCOMING, every, every, items)
 }
 
 // The Rust's mutable weights, as the numbers of their rows: those of `edges_mut`.
-pub fn edge_weights_mut(
-    weights: &[i32],
-    heads: &[u32],
-    registers: &[u32],
-    links: &[u32],
-    ends: &[u32],
-    n: u32,
-    m: u32,
-    a: NodeIndex,
-    items: &mut [u32],
-) -> Items
-    ensures { out (told_items result) items.new ≡ edges_mut (entering weights.now heads.now registers.now links.now ends.now n m) a.0 items.old }
+pub fn edge_weights_mut(net: Network, a: NodeIndex, items: &mut [u32]) -> Result<u32, Refusal>
+    ensures { out (told_items result) items.new ≡ edges_mut (net_of net.entry) a.0 items.old }
 {
-    edges_mut(weights, heads, registers, links, ends, n, m, a, items)
+    edges_mut(net, a, items)
 }
 
 // Number, source and target of each edge of the neighbour walk, the ends of incoming ones turned round.
+#[tactic(auto, using(tables::proofs::Guards::guards, tables::proofs::Laws::fitting), unfolding(crate::specs::Walks::edges))]
 pub fn edges(
-    weights: &[i32],
-    heads: &[u32],
-    registers: &[u32],
-    links: &[u32],
-    ends: &[u32],
-    n: u32,
-    m: u32,
+    net: Network,
     a: NodeIndex,
     numbers: &mut [u32],
     sources: &mut [u32],
     targets: &mut [u32],
-) -> Items
+) -> Result<u32, Refusal>
     ensures { out (told_items result) (tables3 numbers.new sources.new targets.new)
-        ≡ edges (entering weights.now heads.now registers.now links.now ends.now n m) a.0 (tables3 numbers.old sources.old targets.old) }
+        ≡ edges (net_of net.entry) a.0 (tables3 numbers.old sources.old targets.old) }
 {
-    if !fits(weights, heads, registers, links, ends, n, m) {
-        return Items::Refused(Refusal::Tables);
+    if !net.fits() {
+        return Err(Refusal::Tables);
     }
-    if n <= a.0 {
-        return Items::Count(0);
+    if net.n <= a.0 {
+        return Ok(0);
     }
-    let first = along(heads, a, OUTGOING, Pick::Every);
-    let second = along(heads, a, INCOMING, Pick::NotTo(a));
+    let first = along(net.heads, a, OUTGOING, Pick::Every);
+    let second = along(net.heads, a, INCOMING, Pick::NotTo(a));
     walk_edges(
-        registers, links, ends, m, first, second, numbers, sources, targets,
+        net.registers,
+        net.links,
+        net.ends,
+        net.m,
+        first,
+        second,
+        numbers,
+        sources,
+        targets,
     )
 }
