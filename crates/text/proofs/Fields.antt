@@ -7,34 +7,26 @@ use mathlib.Core.Option.{Option, none, some}
 use Rattle.std.specs.Prelude.{Some, None}
 use Rattle.std.specs.declared.option.Option as Std·
 use Rattle.std.proofs.lemmas.Option.{some_pair_parts}
-use native.Mathlib.Numerals.{add-one}
+use native.Mathlib.Nat.{zero-add}
 use native.Mathlib.Omega.{arith}
 use borrow.Author.Tests.{lt-ltb, le-ltb, eq-eqb, ne_eqb}
 use lib.IntN.{pos, neg_ℤ}
 use lib.ListN.{length, get_or, take, drop}
-use Rattle.text.proofs.Cutting.{slice_taken}
-use lib.Seq.{slice, slice_empty, slice-cons, length-slice}
+use Rattle.std.proofs.lemmas.List.{take_all}
 use Rattle.printing.specs.Bytes.{minus}
 use Rattle.text.specs.Bytes.{is_digit}
-use Rattle.text.specs.Numbers.{are_digits, magnitude, weight}
-use Rattle.text.specs.Parts.{Within, run, spelled_to, read_digits, read_whole, read_number, weight_of}
-use Rattle.text.proofs.Runs.{and_l, and_r, run_digit, run-stops, run-empty, no_digits, magnitude_small}
+use Rattle.text.specs.Numbers.{are_digits, magnitude, number, weight}
+use Rattle.text.specs.Parts.{run, spelled_to, read_digits, read_whole, read_number, weight_of}
+use Rattle.text.proofs.Runs.{and_l, and_r, run_digit, run-stops, run-empty, run_short, no_digits, magnitude_small}
 
--- what a script has from `at` up to `end`, by its first byte
-module _ {script : List ℕ} {at end : ℕ} (w : Within script at end) where
-  pub nothing_there : at ≡ end → slice at end script ≡ []
-  nothing_there e = rw e (slice_empty end script)
+-- a text, by its first byte
+pub nothing_there : (text : List ℕ) → length text < 1 → text ≡ []
+nothing_there [] h = refl
+nothing_there (b ∷ bs) h = absurd (omega arith)
 
-  pub first_there : (at ≡ end → ⊥) → slice at end script ≡ get_or script at 0 ∷ slice (at + 1) end script
-  first_there n = rw (add-one at) (slice-cons at end script 0 (omega (arith, w.ordered)) w.held)
-
-  pub text_is : take (end - at) (drop at script) ≡ slice at end script
-  text_is =
-      let e : at + (end - at) ≡ end = omega (arith, w.ordered) in
-      sym (slice_taken script at (end - at) (omega (arith, w.ordered, w.held))) ∙ ap (λ n. slice at n script) e
-
-  pub many_there : at + length (slice at end script) ≡ end
-  many_there = omega (arith, w.ordered, length-slice at end script w.held)
+pub first_there : (text : List ℕ) → 1 ≤ length text → text ≡ get_or text 0 0 ∷ take (length text - 1) (drop 1 text)
+first_there [] h = absurd (omega arith)
+first_there (b ∷ bs) h = ap (λ s. b ∷ s) (sym (take_all (length (b ∷ bs) - 1) bs (omega arith)))
 
 -- what `None` or a value tells of the digits
 pub spelled_none : (end : ℕ) (o : Option ℕ) → None ≡ spelled_to end o → o ≡ none
@@ -106,6 +98,24 @@ module _ (at : ℕ) (text : List ℕ) {r : Std·.Option (ℕ × ℕ)} (e : r ≡
     pub whole_all : s ≡ end → Some (v, end) ≡ read_whole end text
     unfolding read_whole
     whole_all k = let q = run-some h in rw (ap magnitude (sym (run-whole text (omega arith))) ∙ q.0)
+
+-- a number behind `at` bytes more
+module _ (at : ℕ) (text : List ℕ) where
+  pub none_behind : None ≡ read_number 0 text → None ≡ read_number at text
+  unfolding read_number
+  none_behind h = rw (spelled_none (0 + length (run text)) (number (run text)) h)
+
+  module _ {x len : ℕ} (h : Some (x, len) ≡ read_number 0 text) where
+    number_is : (number (run text) ≡ some x) × (len ≡ 0 + length (run text))
+    unfolding read_number
+    number_is = spelled_some (0 + length (run text)) (number (run text)) h
+
+    pub number_behind : Some (x, at + len) ≡ read_number at text
+    unfolding read_number
+    number_behind = let q = number_is in rw (q.0, q.1, zero-add (length (run text)))
+
+    pub number_short : len ≤ length text
+    number_short = let q = number_is in omega (arith, q.1, run_short text)
 
 -- a node weight, by its sign
 module _ (end : ℕ) (text : List ℕ) {r : Std·.Option (ℕ × ℕ)} (e : r ≡ read_whole end text) where

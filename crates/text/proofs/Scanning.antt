@@ -5,20 +5,21 @@ use mathlib.Core.Bool.{Bool, true, false, cond}
 use mathlib.Core.List.{List, [], ◌∷◌, ◌++◌, append_assoc}
 use mathlib.Core.Option.{Option, none, some}
 use Rattle.std.specs.Prelude.{Some, None}
-use native.Mathlib.Nat.{sub-zero}
+use native.Mathlib.Nat.{sub-zero, zero-add}
 use native.Mathlib.Numerals.{add-one}
 use native.Mathlib.Decide.{ℕ_discrete}
 use native.Mathlib.Omega.{arith}
 use borrow.Author.Tests.{eq-eqb, ne_eqb}
 use lib.Dec.{eqb, eqb-zero-suc, eqb-suc-zero, eqb-suc-suc}
 use lib.ListN.{length, set, take, drop, length-set}
-use lib.Seq.{slice, sets, set_out, drop-drop}
+use lib.Seq.{sets, set_out}
+use Rattle.std.proofs.lemmas.List.{take_all, length-drop}
 use Rattle.printing.specs.Bytes.{space}
 use Rattle.text.specs.Bytes.{is_digit, before}
 use Rattle.text.specs.Numbers.{are_digits, number, both, numbers, fields, operands}
-use Rattle.text.specs.Parts.{Within, run, read_number, read_field, three_of}
+use Rattle.text.specs.Parts.{run, read_number, read_field, three_of}
 use Rattle.text.proofs.Runs.{and_false, run_digit, run-stops, run-empty, run_short, no_digits}
-use Rattle.text.proofs.Fields.{nothing_there, first_there, many_there, spelled_none, spelled_some}
+use Rattle.text.proofs.Fields.{nothing_there, first_there, spelled_none, spelled_some}
 use Rattle.text.proofs.Cutting.{before-mark, before-other, before-none}
 
 -- `count` times a space and the digits behind it, and nothing else
@@ -142,15 +143,14 @@ field_value at count (b ∷ bs) h =
       | no q ↦ absurd (let z : ◌≡◌ {A = ℕ} 0 1 = cc (rw (ne_eqb b space q) at h) in omega arith)
     ]
 
--- k numbers are stored, and the loop stands at i
-pub record Going (script : List ℕ) (at end count : ℕ) (ns : List ℕ) (i k : ℕ) : Type 0 where
+-- k numbers are stored, and `rest` is still to be read
+pub record Going (text : List ℕ) (count : ℕ) (ns rest : List ℕ) (k : ℕ) : Type 0 where
   pub few : k ≤ count
-  pub within : Within script i end
   pub long : length ns ≡ 3
-  pub so_far : stored ns k (scan (count - k) (slice i end script)) ≡ stored (0 ∷ 0 ∷ 0 ∷ []) 0 (scan count (slice at end script))
+  pub so_far : stored ns k (scan (count - k) rest) ≡ stored (0 ∷ 0 ∷ 0 ∷ []) 0 (scan count text)
 
-pub start : {script : List ℕ} {at end : ℕ} (count : ℕ) → Within script at end → Going script at end count (0 ∷ 0 ∷ 0 ∷ []) at 0
-start count w = record { few = omega arith; within = w; long = refl; so_far = rw (sub-zero count) }
+pub start : (text : List ℕ) (count : ℕ) → Going text count (0 ∷ 0 ∷ 0 ∷ []) text 0
+start text count = record { few = omega arith; long = refl; so_far = rw (sub-zero count) }
 
 stored_none : (ns : List ℕ) (k : ℕ) (o : Option (List ℕ)) → none ≡ stored ns k o → o ≡ none
 stored_none ns k none h = refl
@@ -177,44 +177,47 @@ handed : (ns : List ℕ) (o : Option (List ℕ)) → some ns ≡ stored (0 ∷ 0
 handed ns none h = absurd (let z : ◌≡◌ {A = ℕ} 0 1 = cc in omega arith)
 handed ns (some xs) h = ap three_of h ∙ three xs
 
-module _ {script : List ℕ} {at end count : ℕ} {ns : List ℕ} {i k : ℕ} (g : Going script at end count ns i k) where
-  refused : scan (count - k) (slice i end script) ≡ none → None ≡ three_of (operands count (slice at end script))
+module _ {text : List ℕ} {count : ℕ} {ns rest : List ℕ} {k : ℕ} (g : Going text count ns rest k) where
+  refused : scan (count - k) rest ≡ none → None ≡ three_of (operands count text)
   refused e =
-      let n = stored_none (0 ∷ 0 ∷ 0 ∷ []) 0 (scan count (slice at end script)) (sym (ap (stored ns k) e) ∙ g.so_far) in
-      rw (operands-scan count (slice at end script), n)
+      let n = stored_none (0 ∷ 0 ∷ 0 ∷ []) 0 (scan count text) (sym (ap (stored ns k) e) ∙ g.so_far) in
+      rw (operands-scan count text, n)
 
   module _ (h : k < count) where
     left : count - k ≡ suc (count - (k + 1))
     left = omega arith
 
-    pub field-refused : None ≡ read_field i (slice i end script) → None ≡ three_of (operands count (slice at end script))
-    field-refused e = refused (rw left (field_bad i (count - (k + 1)) (slice i end script) e))
+    pub field-refused : None ≡ read_field 0 rest → None ≡ three_of (operands count text)
+    field-refused e = refused (rw left (field_bad 0 (count - (k + 1)) rest e))
 
-    pub field_stored : {x s : ℕ} → Some (x, s) ≡ read_field i (slice i end script) → Going script at end count (set ns k x) s (k + 1)
-    field_stored {x} {s} e =
-        let q = field_value i (count - (k + 1)) (slice i end script) e in
-        let rest : drop q.0 (slice i end script) ≡ slice s end script = drop-drop q.0 i (take end script) ∙ ap (λ n. drop n (take end script)) (sym q.1) in
-        record {
-          few = omega arith;
-          within = record { ordered = omega (arith, q.1, q.2, many_there g.within); held = g.within.held };
-          long = length-set ns k x ∙ g.long;
-          so_far =
-              sym (stored_one ns k x (scan (count - (k + 1)) (slice s end script)))
-              ∙ ap (λ t. stored ns k (both (some x) (scan (count - (k + 1)) t))) (sym rest)
-              ∙ ap (stored ns k) (sym q.3)
-              ∙ ap (λ n. stored ns k (scan n (slice i end script))) (sym left)
-              ∙ g.so_far;
-        }
+    module _ {x len : ℕ} (e : Some (x, len) ≡ read_field 0 rest) where
+      pub field_within : len ≤ length rest
+      field_within = let q = field_value 0 (count - (k + 1)) rest e in omega (arith, q.1, q.2)
+
+      pub field_stored : Going text count (set ns k x) (take (length rest - len) (drop len rest)) (k + 1)
+      field_stored =
+          let q = field_value 0 (count - (k + 1)) rest e in
+          let behind : take (length rest - len) (drop len rest) ≡ drop q.0 rest =
+          take_all (length rest - len) (drop len rest) (omega (arith, length-drop len rest)) ∙ ap (λ n. drop n rest) (q.1 ∙ zero-add q.0) in
+          record {
+            few = omega arith;
+            long = length-set ns k x ∙ g.long;
+            so_far =
+                ap (λ t. stored (set ns k x) (k + 1) (scan (count - (k + 1)) t)) behind
+                ∙ sym (stored_one ns k x (scan (count - (k + 1)) (drop q.0 rest)))
+                ∙ ap (stored ns k) (sym q.3)
+                ∙ ap (λ n. stored ns k (scan n rest)) (sym left)
+                ∙ g.so_far;
+          }
 
   module _ (h : count ≤ k) where
     none_left : count - k ≡ 0
     none_left = omega arith
 
-    pub more_there : (i ≡ end → ⊥) → None ≡ three_of (operands count (slice at end script))
-    more_there n = refused (rw (none_left, first_there g.within n))
+    pub more_there : 1 ≤ length rest → None ≡ three_of (operands count text)
+    more_there n = refused (rw (none_left, first_there rest n))
 
-    pub all_there : i ≡ end → Some ns ≡ three_of (operands count (slice at end script))
+    pub all_there : length rest < 1 → Some ns ≡ three_of (operands count text)
     all_there e =
-        let t = nothing_there g.within e in
-        let q : some ns ≡ stored (0 ∷ 0 ∷ 0 ∷ []) 0 (scan count (slice at end script)) = rw (none_left, t) at g.so_far in
-        sym (three_whole ns g.long) ∙ handed ns (scan count (slice at end script)) q ∙ ap three_of (sym (operands-scan count (slice at end script)))
+        let q : some ns ≡ stored (0 ∷ 0 ∷ 0 ∷ []) 0 (scan count text) = rw (none_left, nothing_there rest e) at g.so_far in
+        sym (three_whole ns g.long) ∙ handed ns (scan count text) q ∙ ap three_of (sym (operands-scan count text))

@@ -6,17 +6,12 @@ use Rattle.printing.specs.Bytes.{newline, space}
 use Rattle.text.specs.Bytes.{is_digit, before}
 use Rattle.text.specs.Numbers.{magnitude, number}
 
--- a script has the bytes from `at` up to `end`
-pub record Within (script : List ℕ) (at end : ℕ) : Type 0 where
-  pub ordered : at ≤ end
-  pub held : end ≤ length script
-
 -- the digits that a text begins with
 unfoldable pub run : List ℕ → List ℕ
 run [] = []
 run (b ∷ bs) = cond (is_digit b) (b ∷ run bs) []
 
--- their value, which may not fit 32 bits, and where they end
+-- their value, which may not fit 32 bits, and where they end: `at` is where the text begins, and where whole digits do end is given
 abbrev pub spelled_to : ℕ → Math·.Option ℕ → Option (ℕ × ℕ)
 spelled_to end none = None
 spelled_to end (some x) = Some (x, end)

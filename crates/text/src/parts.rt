@@ -1,11 +1,10 @@
-// What reads text. Each asks for the bytes that it reads.
+// What reads text.
 ghost use Rattle.std.specs.Prelude.{◌≡◌, ◌-◌, ◌≤◌, true, length};
-ghost use Rattle.std.proofs.Math.Seq.{slice};
 ghost use Rattle.text.specs.Bytes.{is_digit};
 ghost use Rattle.text.specs.Numbers.{are_digits, value_on, weight, operands, weight_operand};
-ghost use Rattle.text.specs.Parts.{Within, EndsLine, run, read_digits, read_whole, read_number, read_field, three_of, weight_of};
+ghost use Rattle.text.specs.Parts.{EndsLine, run, read_digits, read_whole, read_number, read_field, three_of, weight_of};
 
-// The bytes read are those from `at` up to `end`. A number comes with where its digits end; what is no number is `None`.
+// A number that a text begins with comes with how many bytes it takes; what is no number is `None`.
 
 fn is_digit(b: u8) -> bool
     ensures { result ≡ is_digit b }
@@ -42,101 +41,95 @@ fn value_of(digits: &[u8]) -> u64
     value
 }
 
-// The digits from `at` on, 1 to 10, which may not fit 32 bits: their value. They end at the first byte that is none, or at `end`.
-fn read_digits(script: &[u8], at: usize, end: usize) -> Option<(u64, usize)>
-    requires { Within script.now at end }
-    ensures { result ≡ read_digits at (slice at end script.now) }
+// The digits that a text begins with, 1 to 10: their value, which may not fit 32 bits, and how many they are.
+fn read_digits(text: &[u8]) -> Option<(u64, usize)>
+    ensures { result ≡ read_digits 0 text.now }
 {
-    let text = &script[at..end];
     let len = run_len(text);
     if len == 0 || 10 < len {
         return None;
     }
-    Some((value_of(&text[..len]), at + len))
+    Some((value_of(&text[..len]), len))
 }
 
 // The same where nothing may stand behind the digits.
-fn read_whole(script: &[u8], at: usize, end: usize) -> Option<(u64, usize)>
-    requires { Within script.now at end }
-    ensures { result ≡ read_whole end (slice at end script.now) }
+fn read_whole(text: &[u8]) -> Option<(u64, usize)>
+    ensures { result ≡ read_whole (length text.now) text.now }
 {
-    let (value, stop) = read_digits(script, at, end)?;
-    if stop != end {
+    let (value, len) = read_digits(text)?;
+    if len != text.len() {
         return None;
     }
-    Some((value, end))
+    Some((value, len))
 }
 
-// The unsigned number from `at` on.
-pub fn read_number(script: &[u8], at: usize, end: usize) -> Option<(u32, usize)>
-    requires { Within script.now at end }
-    ensures { result ≡ read_number at (slice at end script.now) }
+// The unsigned number that a text begins with, and how many digits it has.
+pub fn read_number(text: &[u8]) -> Option<(u32, usize)>
+    ensures { result ≡ read_number 0 text.now }
 {
-    let (value, stop) = read_digits(script, at, end)?;
+    let (value, len) = read_digits(text)?;
     let x = u32::try_from(value).ok()?;
-    Some((x, stop))
+    Some((x, len))
 }
 
-// The node weight that the bytes from `at` to `end` spell.
-pub fn read_weight(script: &[u8], at: usize, end: usize) -> Option<i32>
-    requires { Within script.now at end }
-    ensures { result ≡ weight_of (weight (slice at end script.now)) }
+// The node weight that a text spells.
+pub fn read_weight(text: &[u8]) -> Option<i32>
+    ensures { result ≡ weight_of (weight text.now) }
 {
-    if at == end {
+    let [first, digits @ ..] = text else {
         return None;
-    }
-    if script[at] == b'-' {
-        let (value, _) = read_whole(script, at + 1, end)?;
+    };
+    if *first == b'-' {
+        let (value, _) = read_whole(digits)?;
         return i32::try_from(0 - (value as i64)).ok();
     }
-    let (value, _) = read_whole(script, at, end)?;
+    let (value, _) = read_whole(text)?;
     i32::try_from(value).ok()
 }
 
-// One space and a number.
-fn read_field(script: &[u8], at: usize, end: usize) -> Option<(u32, usize)>
-    requires { Within script.now at end }
-    ensures { result ≡ read_field at (slice at end script.now) }
+// One space and a number, and how many bytes these are.
+fn read_field(text: &[u8]) -> Option<(u32, usize)>
+    ensures { result ≡ read_field 0 text.now }
 {
-    if at == end {
+    let [first, field @ ..] = text else {
+        return None;
+    };
+    if *first != b' ' {
         return None;
     }
-    if script[at] != b' ' {
-        return None;
-    }
-    read_number(script, at + 1, end)
+    let (x, len) = read_number(field)?;
+    Some((x, 1 + len))
 }
 
 // What stands behind a command's letter: `count` numbers, one space before each. Those that it has not are 0.
-pub fn read_operands(script: &[u8], at: usize, end: usize, count: usize) -> Option<[u32; 3]>
-    requires { Within script.now at end × (count ≤ 3) }
-    ensures { result ≡ three_of (operands count (slice at end script.now)) }
+pub fn read_operands(text: &[u8], count: usize) -> Option<[u32; 3]>
+    requires { count ≤ 3 }
+    ensures { result ≡ three_of (operands count text.now) }
 {
     let mut numbers = [0u32; 3];
-    let mut i = at;
+    let mut rest = text;
     for k in 0..count {
-        let (x, stop) = read_field(script, i, end)?;
+        let (x, len) = read_field(rest)?;
         numbers[k] = x;
-        i = stop;
+        rest = &rest[len..];
     }
-    if i != end {
+    if !rest.is_empty() {
         return None;
     }
     Some(numbers)
 }
 
 // What stands behind an `N`: one space and a node weight.
-pub fn read_weight_operand(script: &[u8], at: usize, end: usize) -> Option<i32>
-    requires { Within script.now at end }
-    ensures { result ≡ weight_of (weight_operand (slice at end script.now)) }
+pub fn read_weight_operand(text: &[u8]) -> Option<i32>
+    ensures { result ≡ weight_of (weight_operand text.now) }
 {
-    if at == end {
+    let [first, field @ ..] = text else {
+        return None;
+    };
+    if *first != b' ' {
         return None;
     }
-    if script[at] != b' ' {
-        return None;
-    }
-    read_weight(script, at + 1, end)
+    read_weight(field)
 }
 
 // Where the line from `at` on ends: its newline, or the end of the script.

@@ -1,17 +1,31 @@
 -- The text, by its first byte.
+use Rattle.std.proofs.Common.{◌+◌, ◌∙◌, sym, arith}
 use borrow.Author.Tests.{eq-eqb, ne_eqb}
 use Rattle.text.specs.Parts.{read_field}
-use Rattle.text.proofs.Fields.{nothing_there, first_there}
+use Rattle.text.proofs.Fields.{nothing_there, first_there, none_behind, number_behind, number_short}
 use Rattle.text.proofs.parts.read_field.Goals as goal
 
-pub returns-then-at-end : goal.returns-then-at-end
+pub returns-in_default : goal.returns-in_default
 unfolding read_field
-returns-then-at-end c = rw (nothing_there c.requires c.if-at-end.true)
+returns-in_default c = rw (nothing_there _ c.in_default.len_below)
 
-pub returns-then-script-at-ne32 : goal.returns-then-script-at-ne32
+pub returns-then-first-ne32 : goal.returns-then-first-ne32
 unfolding read_field
-returns-then-script-at-ne32 c = rw (first_there c.requires c.if-at-end.false, ne_eqb _ 32 c.if-script-at-ne32.true)
+returns-then-first-ne32 c = rw (first_there _ c.in-len1-up.len_at_least, ne_eqb _ 32 c.if-first-ne32.true)
+
+pub returns-in_err-x : goal.returns-in_err-x
+unfolding read_field
+returns-in_err-x c =
+    let e = sym c.in_err-x.was ∙ c.read_number.ensures in
+    c.from_residual.ensures ∙ rw (first_there _ c.in-len1-up.len_at_least, eq-eqb _ 32 c.if-first-ne32.false) (none_behind (0 + 1) _ e)
+
+pub overflow_add-result : goal.overflow_add-result
+overflow_add-result c =
+    let e = sym c.in_ok-x.was ∙ c.read_number.ensures in
+    record { fits = omega (arith, number_short 0 _ e) }
 
 pub returns : goal.returns
 unfolding read_field
-returns c = rw (first_there c.requires c.if-at-end.false, eq-eqb _ 32 c.if-script-at-ne32.false) c.read_number.ensures
+returns c =
+    let e = sym c.in_ok-x.was ∙ c.read_number.ensures in
+    rw (first_there _ c.in-len1-up.len_at_least, eq-eqb _ 32 c.if-first-ne32.false) (number_behind (0 + 1) _ e)
