@@ -1,20 +1,21 @@
 -- The removal with its tests in the order in which the code makes them, the entries before the links: `as_tested`. Past them, what the part leaves
 -- is what the definition says: `part_so`.
 use Prim.Native.Nat.{ℕ, ◌-◌}
-use mathlib.Core.Path.{◌≡◌, refl}
+use mathlib.Core.Path.{◌≡◌, refl, ◌∙◌}
 use mathlib.Core.Logic.{◌⊎◌, inl, inr, ⊎_elim}
 use mathlib.Core.Bool.{Bool, true, false, ◌&&◌}
 use mathlib.Core.List.{List}
 use borrow.Author.Tests.{eq-eqb, ne_eqb}
 use lib.Dec.{eqb, ltb}
+use Rattle.std.specs.Prelude.{Result, Ok, Err}
+use Rattle.index.specs.declared.Refusal.{Refusal}
 use Rattle.index.specs.declared.Refusal.TheVariants.{Tables, NoEdge, Broken}
 use Rattle.index.specs.Refusals.{refusal_no}
 use Rattle.index.proofs.Laws.{not_zero}
 use Rattle.tables.specs.Net.{Net, fits}
 use Rattle.tables.specs.Answers.{Out, out, refused, unless}
 use Rattle.tables.proofs.Laws.{tested}
-use Rattle.removal.specs.declared.EdgeRemoved.{EdgeRemoved}
-use Rattle.removal.specs.declared.EdgeRemoved.TheVariants as EdgeRemoved·
+use Rattle.removal.specs.declared.removed.RemovedEdge.{RemovedEdge}
 use Rattle.removal.specs.Removal.{Gone, told_edge_removed, place_of, bypassed, last_moved, gone, taken_out, remove_edge}
 use Rattle.removal.proofs.EdgeOuts.{by_place}
 use Rattle.directory.specs.Directory.{Filed, filed, beside, named}
@@ -71,9 +72,13 @@ as_tested f e = go (fits f.net) (ltb e f.net.m) (named f e) (named f (f.net.m - 
     go true true true false = broken
     go true true false last = broken
 
-pub part_so : (f : Filed) (e : ℕ) (r : EdgeRemoved) (h : Net) (d : List ℕ) → out (told_edge_removed r) h ≡ taken_out f.net e
+-- so what it comes to by these tests it comes to
+pub by_turn : {x : Out (ℕ × ℕ × ℕ) Filed} (f : Filed) (e : ℕ) → x ≡ in_turn f e → x ≡ remove_edge_filed f e
+by_turn f e p = p ∙ as_tested f e
+
+pub part_so : (f : Filed) (e : ℕ) (r : Result RemovedEdge Refusal) (h : Net) (d : List ℕ) → out (told_edge_removed r) h ≡ taken_out f.net e
     → d ≡ directory_after r h.registers h.m e f.directory
     → out (told_edge_removed r) (filed h d) ≡ taken_out_filed f e
 unfolding taken_out_filed
-part_so f e (EdgeRemoved·.Edge w moved rows) h d p q = rw (← p, q)
-part_so f e (EdgeRemoved·.Refused why) h d p q = rw (← p, ne_eqb (refusal_no why) 0 (not_zero why), q)
+part_so f e (Ok removed) h d p q = rw (← p, q)
+part_so f e (Err why) h d p q = rw (← p, ne_eqb (refusal_no why) 0 (not_zero why), q)

@@ -11,12 +11,13 @@ ghost use Rattle.dirremoval.specs.Removal.{remove_edge_filed};
 use directory::parts::named;
 use index::{EdgeIndex, Refusal};
 use parts::take_out;
-use removal::EdgeRemoved;
+use removal::RemovedEdge;
 use tables::parts::fits;
 
 pub mod parts;
 
 // Takes edge e out of its two lists; the last row takes its place, and the directory follows. Where the entry of either names another row, nothing changes.
+#[tactic(auto, using(tables::proofs::Guards::guards, tables::proofs::Laws::fitting, crate::proofs::Ways::by_turn))]
 pub fn remove_edge(
     weights: &[i32],
     heads: &mut [u32],
@@ -27,23 +28,23 @@ pub fn remove_edge(
     m: &mut u32,
     directory: &mut [u32],
     e: EdgeIndex,
-) -> EdgeRemoved
+) -> Result<RemovedEdge, Refusal>
     ensures { out (told_edge_removed result) (filed (leaving weights.now heads.new registers.new links.new ends.new n m.new) directory.new)
         ≡ remove_edge_filed (filed (entering weights.now heads.old registers.old links.old ends.old n m.old) directory.old) e.0 }
 {
     let edges = *m;
     if !fits(weights, heads, registers, links, ends, n, edges) {
-        return EdgeRemoved::Refused(Refusal::Tables);
+        return Err(Refusal::Tables);
     }
     if edges <= e.0 {
-        return EdgeRemoved::Refused(Refusal::NoEdge);
+        return Err(Refusal::NoEdge);
     }
     if !named(registers, directory, e) {
-        return EdgeRemoved::Refused(Refusal::Broken);
+        return Err(Refusal::Broken);
     }
     // The last row moves, and its entry with it. Where e is the last row, this is the same test again.
     if !named(registers, directory, EdgeIndex(edges - 1)) {
-        return EdgeRemoved::Refused(Refusal::Broken);
+        return Err(Refusal::Broken);
     }
     take_out(heads, registers, links, ends, n, m, directory, e)
 }
