@@ -9,7 +9,7 @@ use native.Mathlib.Omega.{arith}
 use borrow.Author.Tests.{eq-eqb}
 use lib.IntN.{ℤ}
 use lib.ListN.{length, get_or, set, drop, length-append, length-set}
-use Rattle.index.specs.declared.EdgeIndex.{EdgeIndex}
+use Rattle.std.specs.Prelude.{Result, Ok, Err}
 use Rattle.index.specs.declared.Refusal.{Refusal}
 use Rattle.index.specs.declared.EdgeDirection.TheVariants.{Outgoing, Incoming}
 use Rattle.index.specs.Index.{END, is_end, number_of}
@@ -21,11 +21,10 @@ use Rattle.lists.specs.declared.Spot.TheVariants.{Head}
 use Rattle.lists.specs.Walk.{link_in}
 use Rattle.sound.specs.Sound.{Sound}
 use Rattle.sound.proofs.Kept.{fit_of}
-use Rattle.removal.specs.declared.EdgeRemoved.{EdgeRemoved}
-use Rattle.removal.specs.declared.EdgeRemoved.TheVariants as EdgeRemoved·
+use Rattle.removal.specs.declared.removed.RemovedEdge.{RemovedEdge}
 use Rattle.removal.specs.Lists.{less_edge}
 use Rattle.removal.specs.Parts.{Removable}
-use Rattle.removal.specs.Removal.{Gone, told_edge_removed, taken_out}
+use Rattle.removal.specs.Removal.{Gone, moved_no, told_edge_removed, taken_out}
 use Rattle.removal.proofs.EdgeOuts.{taken_out_lem}
 use Rattle.stripping.specs.Heads.{strip, head_out, emptied}
 use Rattle.stripping.proofs.Turns.{emptied-on, head-out}
@@ -139,7 +138,7 @@ module _ (n k a : ℕ) (H₀ R₀ L₀ E₀ : List ℕ) (m₀ : ℕ) (I₀ : Lis
           registers_hold = f.m_within;
         }
 
-    pub served_so : (r : EdgeRemoved) (why : Refusal) (e : ℕ) → r ≡ EdgeRemoved·.Refused why → e ≡ link_in H L k (Head a)
+    pub served_so : (r : Result RemovedEdge Refusal) (why : Refusal) (e : ℕ) → r ≡ Err why → e ≡ link_in H L k (Head a)
         → out (told_edge_removed r) (net t.alive.totals H' R' L' E' n m') ≡ taken_out (net t.alive.totals H R L E n m) e → ⊥
     served_so r why e p q is =
         let z : refusal_no why ≡ 0 =
@@ -207,11 +206,12 @@ module _ (n k a : ℕ) (H₀ R₀ L₀ E₀ : List ℕ) (m₀ : ℕ) (I₀ : Lis
             stored = stored_so room;
           }
 
-    pub turned_by : (r : EdgeRemoved) (w : ℕ) (mv : EdgeIndex) (read e : ℕ) → r ≡ EdgeRemoved·.Edge w mv read → e ≡ link_in H L k (Head a)
+    pub turned_by : (r : Result RemovedEdge Refusal) (x : RemovedEdge) (e : ℕ) → r ≡ Ok x → e ≡ link_in H L k (Head a)
         → ((T : List ℤ) → out (told_edge_removed r) (net T H' R' L' E' n m') ≡ taken_out (net T H R L E n m) e)
-        → length H' ≡ length H → length R' ≡ length R → length L' ≡ length L → length E' ≡ length E → read < 4294967296 → count < length I
-        → (m' < m) × Turned n k a H₀ R₀ L₀ E₀ m₀ I₀ rows₀ count₀ H' R' L' E' m' (set I count w) (rows + read) (count + 1)
-    turned_by r w mv read e p q is =
-        let is' : (T : List ℤ) → out (done (w, mv.0, read)) (net T H' R' L' E' n m') ≡ taken_out (net T H R L E n m) (link_in H L k (Head a)) =
-        λ T. ap (λ x. out (told_edge_removed x) (net T H' R' L' E' n m')) (sym p) ∙ is T ∙ ap (taken_out (net T H R L E n m)) q in
-        λ a b c d s h. (omega (arith, fewer_by_one w mv.0 read is', edge), turned_more w mv.0 read is' a b c d s h)
+        → length H' ≡ length H → length R' ≡ length R → length L' ≡ length L → length E' ≡ length E → x.rows < 4294967296 → count < length I
+        → (m' < m) × Turned n k a H₀ R₀ L₀ E₀ m₀ I₀ rows₀ count₀ H' R' L' E' m' (set I count x.weight) (rows + x.rows) (count + 1)
+    turned_by r x e p q is =
+        let moved = moved_no x.moved in
+        let is' : (T : List ℤ) → out (done (x.weight, moved, x.rows)) (net T H' R' L' E' n m') ≡ taken_out (net T H R L E n m) (link_in H L k (Head a)) =
+        λ T. ap (λ y. out (told_edge_removed y) (net T H' R' L' E' n m')) (sym p) ∙ is T ∙ ap (taken_out (net T H R L E n m)) q in
+        λ a b c d s h. (omega (arith, fewer_by_one x.weight moved x.rows is', edge), turned_more x.weight moved x.rows is' a b c d s h)

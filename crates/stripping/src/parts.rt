@@ -4,7 +4,6 @@ ghost use Rattle.tables.specs.Net.{loan};
 ghost use Rattle.stripping.specs.Parts.{Strippable, Strips};
 
 use index::{EdgeDirection, EdgeIndex, NodeIndex};
-use removal::EdgeRemoved;
 use removal::parts::take_out;
 use tables::parts::NODE_CELLS;
 
@@ -31,27 +30,20 @@ pub fn strip(
 {
     let mut rows: u64 = 0;
     let mut count: u32 = 0;
-    let mut k = 0;
-    while k < 2 {
-        let d = EdgeDirection::ALL[k];
+    for d in EdgeDirection::ALL {
         'heads: loop {
             let e = EdgeIndex(heads[NODE_CELLS * a.index() + d.number()]);
             if e.is_end() {
                 break 'heads;
             }
-            match take_out(heads, registers, links, ends, n, m, e) {
-                EdgeRemoved::Edge(w, _, read) => {
-                    items[count as usize] = w;
-                    count += 1;
-                    rows += read as u64;
-                }
-                // A sound network refuses none.
-                EdgeRemoved::Refused(_) => {
-                    break 'heads;
-                }
-            }
+            // A sound network refuses none.
+            let Ok(gone) = take_out(heads, registers, links, ends, n, m, e) else {
+                break 'heads;
+            };
+            items[count as usize] = gone.weight;
+            count += 1;
+            rows += u64::from(gone.rows);
         }
-        k += 1;
     }
     Stripped { rows, count }
 }
