@@ -14,17 +14,15 @@ pub fn renumber(links: &[u32], ends: &mut [u32], m: u32, k: usize, link: u32, a:
     ensures { Renumbers links.now (loan ends.old ends.new) m k link a.0 result }
 {
     let mut e = link;
-    let mut rows = 0;
-    while e < m {
-        if rows == m {
-            break;
+    for rows in 0..m {
+        if m <= e {
+            return rows;
         }
         let cell = EDGE_CELLS * EdgeIndex(e).index() + k;
         ends[cell] = a.0;
         e = links[cell];
-        rows += 1;
     }
-    rows
+    m
 }
 
 // Row b is copied over row a, and becomes vacant.
