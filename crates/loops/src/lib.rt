@@ -8,15 +8,16 @@ ghost use Rattle.loops.specs.Loops.{sums, add_nodes, add_edges, find_edges, neig
 
 use find::find_edge;
 use index::{EdgeIndex, NodeIndex};
-use parts::{edge_adds, items_add, node_adds, removal_adds};
+use parts::{adds, items_add};
 use removal::remove_edge;
 use rows::{add_edge, add_node};
-use std::num::wrapping_add_u64;
+use tables::Network;
 use walks::neighbors;
 
 pub mod parts;
 
 // A node for each total.
+#[tactic(auto, unfolding(crate::specs::Loops::calls))]
 pub fn loop_add_nodes(
     weights: &mut [i32],
     heads: &mut [u32],
@@ -31,17 +32,15 @@ pub fn loop_add_nodes(
         ≡ add_nodes (entering weights.old heads.old registers.now links.now ends.now n.old m) totals.now }
 {
     let mut sum: u64 = 0;
-    let mut i: usize = 0;
-    while i < totals.len() {
-        let w = totals[i];
+    for &w in totals {
         let answer = add_node(weights, heads, registers, links, ends, n, m, w);
-        sum = wrapping_add_u64(sum, node_adds(answer));
-        i += 1;
+        sum = sum.wrapping_add(adds(answer));
     }
     sum
 }
 
 // An edge for each row of three cells: source, target, register number.
+#[tactic(auto, unfolding(crate::specs::Loops::calls))]
 pub fn loop_add_edges(
     weights: &[i32],
     heads: &mut [u32],
@@ -56,20 +55,17 @@ pub fn loop_add_edges(
         ≡ add_edges (entering weights.now heads.old registers.old links.old ends.old n m.old) edges.now }
 {
     let mut sum: u64 = 0;
-    let mut i: usize = 0;
-    let count = edges.len() / 3;
-    while i < count {
-        let a = NodeIndex(edges[3 * i]);
-        let b = NodeIndex(edges[3 * i + 1]);
-        let w = edges[3 * i + 2];
+    let (rows, _) = edges.as_chunks::<3>();
+    for &[a, b, w] in rows {
+        let (a, b) = (NodeIndex(a), NodeIndex(b));
         let answer = add_edge(weights, heads, registers, links, ends, n, m, a, b, w);
-        sum = wrapping_add_u64(sum, edge_adds(answer));
-        i += 1;
+        sum = sum.wrapping_add(adds(answer));
     }
     sum
 }
 
 // The edge between the two nodes of each row of two cells.
+#[tactic(auto, unfolding(crate::specs::Loops::calls))]
 pub fn loop_find_edges(
     weights: &[i32],
     heads: &[u32],
@@ -82,20 +78,26 @@ pub fn loop_find_edges(
 ) -> u64
     ensures { result ≡ find_edges (entering weights.now heads.now registers.now links.now ends.now n m) pairs.now }
 {
+    let net = Network {
+        weights,
+        heads,
+        registers,
+        links,
+        ends,
+        n,
+        m,
+    };
     let mut sum: u64 = 0;
-    let mut i: usize = 0;
-    let count = pairs.len() / 2;
-    while i < count {
-        let a = NodeIndex(pairs[2 * i]);
-        let b = NodeIndex(pairs[2 * i + 1]);
-        let answer = find_edge(weights, heads, registers, links, ends, n, m, a, b);
-        sum = wrapping_add_u64(sum, edge_adds(answer));
-        i += 1;
+    let (rows, _) = pairs.as_chunks::<2>();
+    for &[a, b] in rows {
+        let answer = find_edge(net, NodeIndex(a), NodeIndex(b));
+        sum = sum.wrapping_add(adds(answer));
     }
     sum
 }
 
 // The neighbours of every node, each time into the same table.
+#[tactic(auto, unfolding(crate::specs::Loops::calls))]
 pub fn loop_neighbors(
     weights: &[i32],
     heads: &[u32],
@@ -108,18 +110,25 @@ pub fn loop_neighbors(
 ) -> u64
     ensures { sums result items.new ≡ neighbors_of_all (entering weights.now heads.now registers.now links.now ends.now n m) items.old }
 {
+    let net = Network {
+        weights,
+        heads,
+        registers,
+        links,
+        ends,
+        n,
+        m,
+    };
     let mut sum: u64 = 0;
-    let mut a: u32 = 0;
-    while a < n {
-        let node = NodeIndex(a);
-        let answer = neighbors(weights, heads, registers, links, ends, n, m, node, items);
-        sum = wrapping_add_u64(sum, items_add(answer, items));
-        a += 1;
+    for a in 0..n {
+        let answer = neighbors(net, NodeIndex(a), items);
+        sum = sum.wrapping_add(items_add(answer, items));
     }
     sum
 }
 
 // Takes out an edge for each number.
+#[tactic(auto, unfolding(crate::specs::Loops::calls))]
 pub fn loop_remove_edges(
     weights: &[i32],
     heads: &mut [u32],
@@ -134,12 +143,9 @@ pub fn loop_remove_edges(
         ≡ remove_edges (entering weights.now heads.old registers.old links.old ends.old n m.old) numbers.now }
 {
     let mut sum: u64 = 0;
-    let mut i: usize = 0;
-    while i < numbers.len() {
-        let e = EdgeIndex(numbers[i]);
-        let answer = remove_edge(weights, heads, registers, links, ends, n, m, e);
-        sum = wrapping_add_u64(sum, removal_adds(answer));
-        i += 1;
+    for &e in numbers {
+        let answer = remove_edge(weights, heads, registers, links, ends, n, m, EdgeIndex(e));
+        sum = sum.wrapping_add(adds(answer));
     }
     sum
 }

@@ -1,49 +1,61 @@
 // What one answer adds to a loop's sum: its number, which is 0 where it is served, and its value.
-ghost use Rattle.std.specs.Prelude.{◌≡◌, ◌≤◌, length};
-ghost use Rattle.tables.specs.Answers.{told_node, told_edge, told_items};
-ghost use Rattle.removal.specs.Removal.{told_edge_removed, weight_told};
+ghost use Rattle.std.specs.Prelude.{◌≡◌, ℕ, ◌≤◌, length};
+ghost use Rattle.tables.specs.Answers.{told_as, told_items};
 ghost use Rattle.loops.specs.Loops.{adds, in64, total, totalled};
 
-use removal::EdgeRemoved;
-use std::num::wrapping_add_u64;
-use tables::{EdgeAnswer, Items, NodeAnswer};
+use index::{EdgeIndex, NodeIndex, Refusal};
+use removal::RemovedEdge;
 
-pub fn node_adds(answer: NodeAnswer) -> u64
-    ensures { result ≡ adds (told_node answer) }
-{
-    match answer {
-        NodeAnswer::Node(a) => a.0 as u64,
-        NodeAnswer::Refused(why) => why.number() as u64,
+// A value that a call tells, as a number.
+pub trait Addend {
+    ghost addend_of: { Self → ℕ };
+
+    fn addend(self) -> u64
+        ensures { result ≡ addend_of self };
+}
+
+impl Addend for NodeIndex {
+    ghost addend_of = { λ a. a.0 };
+
+    fn addend(self) -> u64 {
+        self.0 as u64
     }
 }
 
-pub fn edge_adds(answer: EdgeAnswer) -> u64
-    ensures { result ≡ adds (told_edge answer) }
-{
-    match answer {
-        EdgeAnswer::Edge(e) => e.0 as u64,
-        EdgeAnswer::Refused(why) => why.number() as u64,
+impl Addend for EdgeIndex {
+    ghost addend_of = { λ e. e.0 };
+
+    fn addend(self) -> u64 {
+        self.0 as u64
     }
 }
 
 // Of a removal the edge's weight counts.
-pub fn removal_adds(answer: EdgeRemoved) -> u64
-    ensures { result ≡ adds (weight_told (told_edge_removed answer)) }
+impl Addend for RemovedEdge {
+    ghost addend_of = { λ x. x.weight };
+
+    fn addend(self) -> u64 {
+        self.weight as u64
+    }
+}
+
+pub fn adds<T: Addend + Copy>(answer: Result<T, Refusal>) -> u64
+    ensures { result ≡ adds (told_as T.addend_of 0 answer) }
 {
     match answer {
-        EdgeRemoved::Edge(w, _, _) => w as u64,
-        EdgeRemoved::Refused(why) => why.number() as u64,
+        Ok(x) => x.addend(),
+        Err(why) => why.number() as u64,
     }
 }
 
 // Of a walk the items count that it gave.
-pub fn items_add(answer: Items, items: &[u32]) -> u64
+pub fn items_add(answer: Result<u32, Refusal>, items: &[u32]) -> u64
     requires { (told_items answer).values ≤ length items.now }
     ensures { result ≡ in64 (adds (totalled (told_items answer) items.now)) }
 {
     match answer {
-        Items::Count(c) => total(&items[..c as usize]),
-        Items::Refused(why) => why.number() as u64,
+        Ok(c) => total(&items[..c as usize]),
+        Err(why) => why.number() as u64,
     }
 }
 
@@ -51,10 +63,8 @@ pub fn total(items: &[u32]) -> u64
     ensures { result ≡ in64 (total items.now) }
 {
     let mut sum: u64 = 0;
-    let mut i: usize = 0;
-    while i < items.len() {
-        sum = wrapping_add_u64(sum, items[i] as u64);
-        i += 1;
+    for &x in items {
+        sum = sum.wrapping_add(x as u64);
     }
     sum
 }

@@ -1,22 +1,7 @@
-use Rattle.std.proofs.Common.{◌≡◌, length, refl, ap, arith}
-use Rattle.loops.specs.Loops.{calls, weight_of}
-use Rattle.loops.proofs.Laws.{calls-more}
+use Rattle.std.proofs.Common.{refl, ap, ◌∙◌}
+use Rattle.loops.specs.Loops.{adds, weight_of}
+use Rattle.loops.proofs.Laws.{calls-more, weight_adds}
 use Rattle.loops.proofs.loop_remove_edges.Goals as goal
 
-pub loop-i-init : goal.loop-i-init
-unfolding calls
-loop-i-init c = record { within = omega arith; stands = refl }
-
-pub loop-i-preserved : goal.loop-i-preserved
-loop-i-preserved c =
-    record {
-      within = omega arith;
-      stands =
-          calls-more _ _ _ c.loop-i.invariant.stands (ap weight_of c.remove_edge-answer.ensures) c.removal_adds.ensures
-          c.wrapping_add_u64-sum.ensures.value;
-    }
-
-pub returns : goal.returns
-returns c =
-    let e : c.loop-i.i ≡ length c.args.numbers.now = omega arith in
-    rw e at c.loop-i.invariant.stands
+pub loop-e-preserved : goal.loop-e-preserved
+loop-e-preserved c = calls-more _ _ _ c.loop-e.invariant (ap weight_of c.remove_edge-answer.ensures) (c.adds-sum.ensures ∙ ap adds (weight_adds _)) refl
