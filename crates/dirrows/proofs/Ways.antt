@@ -19,11 +19,10 @@ use Rattle.tables.specs.Net.{Net, Lent, net, fits}
 use Rattle.tables.specs.Answers.{Told, Out, out, done, refused, told_as}
 use Rattle.tables.proofs.Laws.{both, tested, fit-says}
 use Rattle.tables.proofs.Guards.{FitOf}
-use Rattle.lookups.specs.Lookups.{set_edge_weight}
 use Rattle.rows.specs.Calls.{linked, add_edge}
-use Rattle.directory.specs.Directory.{entry, none, Filed, filed}
-use Rattle.directory.proofs.Beside.{beside-refused, beside-served}
-use Rattle.dirrows.specs.Calls.{claimed, entered, reweighed, all_out, add_edge_filed, set_edge_weight_filed}
+use Rattle.directory.specs.Directory.{entry, Filed, filed}
+use Rattle.directory.proofs.Beside.{beside-refused}
+use Rattle.dirrows.specs.Calls.{claimed, entered, reweighed, add_edge_filed}
 use Rattle.dirrows.specs.Parts.{claim_no, Adds, Reweighs}
 
 -- a claim, by what its entry x is
@@ -89,10 +88,6 @@ module _ (f : Filed) (a b w : ℕ) (c : Result Unit Refusal) (told : Adds f.net 
     pub room : Room f.net a b
     room = served.1
 
-    pub number-refused : (why : Refusal) → claimed f.directory w END ≡ Err why → out (refused why 0) f ≡ add_edge_filed f a b w
-    unfolding add_edge_filed
-    number-refused why q = rw (served.0, q)
-
     pub entered_so : (h : Net) (d : List ℕ) → claimed f.directory w END ≡ Ok tt
         → out (done f.net.m) h ≡ out (done f.net.m) (linked f.net a b w) → d ≡ set f.directory w f.net.m
         → out (done f.net.m) (filed h d) ≡ add_edge_filed f a b w
@@ -117,21 +112,3 @@ module _ (weights : List ℤ) (heads : List ℕ) (registers : Lent ℕ) (links e
       → out (granted values zeros c) after ≡ reweighed before zeros e w o
   reweighed_so zeros values o (Ok u) p q = rw (← p, ← q.answer_is, q.registers_are, q.directory_is)
   reweighed_so zeros values o (Err why) p q = rw (← q.answer_is, q.registers_are, q.directory_is)
-
-  -- setting an edge's number, past the tests of the call without a directory
-  pub weight-told : (c : Result Unit Refusal) → out (done tt) reset ≡ set_edge_weight before.net e w → Reweighs registers directory e w c
-      → out (granted tt tt c) after ≡ set_edge_weight_filed before e w
-  unfolding set_edge_weight_filed
-  weight-told c p q =
-      let o = set_edge_weight before.net e w in
-      beside-served before o (reweighed before tt e w o) tt _ _ p (reweighed_so tt tt o c p q)
-
--- and refused by these
-pub weight-refused : (f : Filed) (e w : ℕ) (why : Refusal) → out (refused why tt) f.net ≡ set_edge_weight f.net e w
-    → out (refused why tt) f ≡ set_edge_weight_filed f e w
-unfolding set_edge_weight_filed
-weight-refused f e w why p = let o = set_edge_weight f.net e w in beside-refused f o (reweighed f tt e w o) why tt f.net p
-
--- all edges out: every entry is none where the call without a directory was served
-pub cleared_so : (f : Filed) (o : Out Unit Net) (h : Net) (d : List ℕ) → out (done tt) h ≡ o → d ≡ none f.directory → out (done tt) (filed h d) ≡ all_out f o
-cleared_so f o h d p q = rw (← p, q)

@@ -16,6 +16,7 @@ use tables::parts::{fits, link_edge};
 pub mod parts;
 
 // Adds an edge from a to b. What refuses it without a directory comes first, then what stands against its number; only then is anything stored.
+#[tactic(auto, unfolding(crate::specs::Calls::add_edge_filed))]
 pub fn add_edge(
     weights: &[i32],
     heads: &mut [u32],
@@ -51,6 +52,7 @@ pub fn add_edge(
 }
 
 // Gives edge e the register number w, and moves its entry.
+#[tactic(auto, using(tables::proofs::Laws::fitting), unfolding(crate::specs::Calls::set_edge_weight_filed, lookups::specs::Lookups::set_edge_weight))]
 pub fn set_edge_weight(
     weights: &[i32],
     heads: &[u32],
@@ -76,6 +78,7 @@ pub fn set_edge_weight(
 }
 
 // Takes out all edges; every entry becomes none.
+#[tactic(auto, unfolding(crate::specs::Calls::clear_edges_filed))]
 pub fn clear_edges(
     weights: &[i32],
     heads: &mut [u32],
@@ -95,6 +98,7 @@ pub fn clear_edges(
 }
 
 // Takes out all nodes and edges; every entry becomes none.
+#[tactic(auto, unfolding(crate::specs::Calls::clear_filed))]
 pub fn clear(
     weights: &mut [i32],
     heads: &mut [u32],

@@ -9,6 +9,7 @@ use index::{EdgeIndex, NodeIndex, Refusal};
 use tables::Network;
 
 // What refuses a new edge from a to b, whatever its number: 1, 2, 3.
+#[tactic(auto, unfolding(rows::specs::Calls::add_edge))]
 pub fn addable(net: Network, a: NodeIndex, b: NodeIndex) -> Result<(), Refusal>
     ensures { Adds (net_of net.entry) a.0 b.0 result }
 {
@@ -28,6 +29,7 @@ pub fn addable(net: Network, a: NodeIndex, b: NodeIndex) -> Result<(), Refusal>
 }
 
 // What refuses number w to row e: 12, 11. A row that is yet to come is asked for as `END`: no entry is its own.
+#[tactic(auto, unfolding(crate::specs::Calls::claimed))]
 pub fn free_for(directory: &[u32], w: u32, e: EdgeIndex) -> Result<(), Refusal>
     ensures { result ≡ claimed directory.now w e.0 }
 {

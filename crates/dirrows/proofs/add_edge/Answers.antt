@@ -4,7 +4,7 @@ use Rattle.std.proofs.lemmas.Result.{err_from_is_err_and}
 use Rattle.tables.specs.Net.{net}
 use Rattle.rows.proofs.Served.{edge-linked}
 use Rattle.directory.specs.Directory.{filed}
-use Rattle.dirrows.proofs.Ways.{Room, not_addable, room, number-refused, entered_so}
+use Rattle.dirrows.proofs.Ways.{Room, not_addable, room, entered_so}
 use Rattle.dirrows.proofs.add_edge.Goals as goal
 
 pub link_edge-requires : goal.link_edge-requires
@@ -26,12 +26,6 @@ returns-in_err-addable c =
     let g = net c.args.weights.now c.args.heads.now c.args.registers.now c.args.links.now c.args.ends.now c.args.n c.args.m.now in
     let p = err_from_is_err_and c.from_residual.result c.from_residual.ensures.1 in
     rw (p.1, p.2) (not_addable (filed g c.args.directory.now) _ _ _ _ c.addable.ensures _ c.in_err-addable.was)
-
-pub returns-in_err-free_for : goal.returns-in_err-free_for
-returns-in_err-free_for c =
-    let g = net c.args.weights.now c.args.heads.now c.args.registers.now c.args.links.now c.args.ends.now c.args.n c.args.m.now in
-    let p = err_from_is_err_and c.from_residual-in_err-free_for.result c.from_residual-in_err-free_for.ensures.1 in
-    rw (p.1, p.2) (number-refused (filed g c.args.directory.now) _ _ _ _ c.addable.ensures c.in_ok-addable.was _ (sym c.in_err-free_for.ensures))
 
 pub returns : goal.returns
 returns c =
