@@ -1,15 +1,15 @@
 -- The ways in which a node's removal ends, in plain columns: what the code leaves is what the definition says.
 use Prim.Native.Nat.{ℕ, ◌+◌, ◌-◌, ◌≤◌, ◌<◌}
-use mathlib.Core.Path.{◌≡◌, sym, ap, ap₂, ◌∙◌}
+use mathlib.Core.Path.{◌≡◌, refl, sym, ap, ap₂, ◌∙◌}
 use mathlib.Core.Bool.{true, false}
 use mathlib.Core.List.{List, [], map}
 use native.Mathlib.Omega.{arith}
 use borrow.Author.Tests.{le-leb, lt-leb}
 use lib.IntN.{ℤ, pos}
 use lib.ListN.{length, get_or, set, length-append, length-map}
-use Rattle.index.specs.declared.NodeIndex.{NodeIndex}
-use Rattle.index.specs.declared.EdgeDirection.{EdgeDirection}
-use Rattle.index.specs.declared.Refusal.{Refusal}
+use Rattle.std.specs.Prelude.{Option, Some, None, Ok, Err}
+use Rattle.std.specs.Result.{is_err}
+use Rattle.std.proofs.lemmas.Option.{none-some, same_Some}
 use Rattle.index.specs.declared.Refusal.TheVariants.{Short}
 use Rattle.tables.specs.Net.{Net, net, node_cell}
 use Rattle.tables.specs.Rows.{node_row, vacant_node, heads_with, with_node}
@@ -22,13 +22,9 @@ use Rattle.lists.specs.Walk.{link_at, rows_from, picks, gives, around}
 use Rattle.lists.proofs.Chains.{chain_ends}
 use Rattle.legs.specs.declared.parts.Leg.{Leg}
 use Rattle.legs.specs.declared.parts.Settled.{Settled}
-use Rattle.legs.specs.declared.parts.Settled.TheVariants.{Rows}
-use Rattle.legs.specs.declared.parts.Settled.TheVariants as Settled·
 use Rattle.legs.specs.Legs.{leg_at, settled}
-use Rattle.sound.specs.declared.Checked.{Checked}
-use Rattle.sound.specs.declared.Checked.TheVariants as Checked·
 use Rattle.sound.specs.Sound.{lists}
-use Rattle.sound.specs.Check.{checked, accepted, is_sound}
+use Rattle.sound.specs.Check.{Checked, checked, accepted, is_sound}
 use Rattle.sound.proofs.Exactly.{small, accepted-sound}
 use Rattle.sound.proofs.Kept.{fit_of}
 use Rattle.stripping.specs.Heads.{strip, stripped}
@@ -55,10 +51,10 @@ unfolding dropped with_node
 node-taken g a I H₁ R₁ L₁ E₁ m₁ given rows count at w I₁ W₂ H₂ E₂ n₂ more i v s c j p q r z t = rw (v, i, ← s, c, j, p, q, r, z, t)
 
 -- what is told of a node's two lists, and how the code comes to it
-abbrev pub both : Net → ℕ → Settled
+abbrev pub both : Net → ℕ → Option Settled
 both g a = settled g.links g.ends g.m (leg_at g.heads 0 Every a) (leg_at g.heads 1 (NotTo (record { 0 = a })) a)
 
-pub both-settled : (g : Net) (a : ℕ) {v : Settled} {p q : Leg} → p ≡ leg_at g.heads 0 Every a → q ≡ leg_at g.heads 1 (NotTo (record { 0 = a })) a
+pub both-settled : (g : Net) (a : ℕ) {v : Option Settled} {p q : Leg} → p ≡ leg_at g.heads 0 Every a → q ≡ leg_at g.heads 1 (NotTo (record { 0 = a })) a
     → v ≡ settled g.links g.ends g.m p q → v ≡ both g a
 both-settled g a p q z = rw (p, q) at z
 
@@ -70,8 +66,12 @@ module _ (g : Net) (a : ℕ) (C : Closable g a) where
       ∙ ap₂ (λ x y. x + y) (length-map (picks g 0 Every a) (gives g Weight 0)) (length-map (picks g 1 (NotTo (record { 0 = a })) a) (gives g Weight 1))
 
   both_are : both g a
-      ≡ Rows (length (rows_from g.links g.m 0 (link_at g 0 (Head a)))) (length (picks g 0 Every a)) (length (rows_from g.links g.m 1 (link_at g 1 (Head a))))
-      (length (around g Weight a))
+      ≡ Some (record {
+        rows = length (rows_from g.links g.m 0 (link_at g 0 (Head a)));
+        taken = length (picks g 0 Every a);
+        others = length (rows_from g.links g.m 1 (link_at g 1 (Head a)));
+        count = length (around g Weight a);
+      })
   both_are =
       let s = small g C.fit in
       let e = C.sound.all_end in
@@ -81,16 +81,11 @@ module _ (g : Net) (a : ℕ) (C : Closable g a) where
         edges-around,
       )
 
-  pub not_broken : (v : Settled) → v ≡ both g a → v ≡ Settled·.Broken → ⊥
-  not_broken v p q =
-      let z = sym q ∙ p ∙ both_are in
-      let t : ◌≡◌ {A = ℕ} 0 1 = cc in
-      omega arith
+  pub not_broken : (v : Option Settled) → v ≡ both g a → v ≡ None → ⊥
+  not_broken v p q = none-some _ (sym q ∙ p ∙ both_are)
 
-  pub count_is : (v : Settled) (q r s count : ℕ) → v ≡ both g a → v ≡ Rows q r s count → count ≡ length (around g Weight a)
-  count_is v q r s count p z =
-      let t = sym z ∙ p ∙ both_are in
-      cc
+  pub count_is : (v : Option Settled) (x : Settled) → v ≡ both g a → v ≡ Some x → x.count ≡ length (around g Weight a)
+  count_is v x p z = ap (λ (y : Settled). y.count) (same_Some _ _ (sym z ∙ p ∙ both_are))
 
   pub enough : (count items : ℕ) → count ≡ length (around g Weight a) → count ≤ items → length (stripped g a).given ≤ items
   enough count items c l = omega (arith, c, ap length (given_are g C.lists a C.fit C.sound C.node))
@@ -104,19 +99,19 @@ module _ (g : Net) (a : ℕ) (C : Closable g a) where
   long_enough I count o c l is = rw (le-leb (length (around g Weight a)) (length I) (omega (arith, c))) is
 
 -- an accepted network is sound
-pub closable_so : (g : Net) (a rows : ℕ) → checked g ≡ Checked·.Accepted rows → a < g.n → Closable g a
+pub closable_so : (g : Net) (a rows : ℕ) → checked g ≡ Ok rows → a < g.n → Closable g a
 closable_so g a rows c l =
     let S = accepted-sound g rows c in
     record { fit = S.0; lists = lists g; sound = S.1; node = l }
 
 -- what the check's answer says of the test for 6
-pub is_sound_lem : (g : Net) (v : Checked) (rows : ℕ) → v ≡ checked g → v ≡ Checked·.Accepted rows → is_sound g ≡ true
+pub is_sound_lem : (g : Net) (v : Checked) (rows : ℕ) → v ≡ checked g → v ≡ Ok rows → is_sound g ≡ true
 is_sound_lem g v rows p q = ap accepted (sym p ∙ q)
 
-pub at_fault : (g : Net) (v : Checked) (d : EdgeDirection) (a : NodeIndex) → v ≡ checked g → v ≡ Checked·.Fault d a → is_sound g ≡ false
-at_fault g v d a p q = ap accepted (sym p ∙ q)
+pub at_fault : (g : Net) (v : Checked) → v ≡ checked g → is_err v ≡ true → is_sound g ≡ false
+at_fault g (Ok rows) p q = cc
+at_fault g (Err why) p q = ap accepted (sym p)
 
-pub not_read : (g : Net) (v : Checked) (why : Refusal) → v ≡ checked g → v ≡ Checked·.Refused why → is_sound g ≡ false
-not_read g v why p q = ap accepted (sym p ∙ q)
-
-pub ruleset decided = (is_sound_lem, at_fault, not_read)
+pub rows_told : (v : Checked) → is_err v ≡ false → (rows : ℕ) × (v ≡ Ok rows)
+rows_told (Ok rows) q = (rows, refl)
+rows_told (Err why) q = cc

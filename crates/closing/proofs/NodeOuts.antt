@@ -17,10 +17,9 @@ use Rattle.tables.specs.Answers.{done, onto}
 use Rattle.tables.proofs.Laws.{tested}
 use Rattle.lists.specs.declared.Item.TheVariants.{Weight}
 use Rattle.lists.specs.Walk.{around}
-use Rattle.sound.specs.declared.Checked.{Checked}
-use Rattle.sound.specs.declared.Checked.TheVariants as Checked·
+use Rattle.std.specs.Prelude.{Ok, Err}
 use Rattle.sound.specs.Sound.{end_at, Sound, lists}
-use Rattle.sound.specs.Check.{checked, accepted}
+use Rattle.sound.specs.Check.{Checked, checked, accepted}
 use Rattle.sound.proofs.Exactly.{sound_accepted, accepted-sound}
 use Rattle.sound.proofs.Kept.{HasLists}
 use Rattle.removal.specs.Lists.{renamed, Longest}
@@ -142,10 +141,9 @@ node_kept g ls a items S =
     tested P (leb (length (around g Weight a)) (length items)) _ _ (ls, S) (λ r.
     (less_node a (g.n - 1) (listing g ls), (closing g ls a f S (ltb-true a g.n l) items).sound)))))
 
-accepts : (r : Checked) → accepted r ≡ true → (rows : ℕ) × (r ≡ Checked·.Accepted rows)
-accepts (Checked·.Accepted rows) h = (rows, refl)
-accepts (Checked·.Fault d a) h = absurd (let z : ◌≡◌ {A = ℕ} 0 1 = cc in omega arith)
-accepts (Checked·.Refused why) h = absurd (let z : ◌≡◌ {A = ℕ} 0 1 = cc in omega arith)
+accepts : (r : Checked) → accepted r ≡ true → (rows : ℕ) × (r ≡ Ok rows)
+accepts (Ok rows) h = (rows, refl)
+accepts (Err why) h = cc
 
 module _ (g : Net) (a : ℕ) (items : List ℕ) (f : fits g ≡ true) (la : a < g.n) where
   pub unsound_6 : (HasLists g → ⊥) → (remove_node g a items).answer.number ≡ 6

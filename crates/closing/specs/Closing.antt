@@ -1,23 +1,22 @@
 -- Taking a node out: it is stripped of its edges, one head after the other, and dropped; the last node takes its place.
-use Rattle.std.specs.Prelude.{ℕ, ◌+◌, List, ltb, leb, ℤ, pos, length, get_or}
+use Rattle.std.specs.Prelude.{ℕ, ◌+◌, List, ltb, leb, ℤ, pos, length, get_or, Result}
+use Rattle.index.specs.declared.Refusal.{Refusal}
 use Rattle.index.specs.declared.Refusal.TheVariants.{Tables, NoNode, Broken, Short}
 use Rattle.tables.specs.Net.{Net, fits}
-use Rattle.tables.specs.Answers.{Told, Out, out, done, refused, unless, onto}
+use Rattle.tables.specs.Answers.{Told, Out, out, done, refused, unless, onto, told_as}
 use Rattle.lists.specs.declared.Item.TheVariants.{Weight}
 use Rattle.lists.specs.Walk.{around}
 use Rattle.sound.specs.Check.{is_sound}
 use Rattle.stripping.specs.Heads.{Strip, stripped}
 use Rattle.dropping.specs.Drop.{dropped, rows_moved}
-use Rattle.closing.specs.declared.NodeRemoved.{NodeRemoved}
-use Rattle.closing.specs.declared.NodeRemoved.TheVariants as NodeRemoved·
+use Rattle.closing.specs.declared.RemovedNode.{RemovedNode}
 
 -- the node's weight, the rows read, how many edges went with it; the network, and the table with their weights
 abbrev pub Closed : Type 0
 Closed = Out (ℤ × ℕ × ℕ) (Net × List ℕ)
 
-abbrev pub told_node_removed : NodeRemoved → Told (ℤ × ℕ × ℕ)
-told_node_removed (NodeRemoved·.Node w rows count) = done (w, rows, count)
-told_node_removed (NodeRemoved·.Refused why) = refused why (pos 0, 0, 0)
+abbrev pub told_node_removed : Result RemovedNode Refusal → Told (ℤ × ℕ × ℕ)
+told_node_removed = told_as (λ (x : RemovedNode). (x.weight, x.rows, x.count)) (pos 0, 0, 0)
 
 -- node a stripped, then dropped; the weights of its edges stand at the front of the table
 abbrev pub closed : Net → ℕ → List ℕ → Strip → Closed

@@ -8,19 +8,22 @@ ghost use Rattle.closing.specs.Closing.{remove_node, told_node_removed};
 
 use index::{NodeIndex, Refusal};
 use parts::close;
-use sound::{Checked, check};
+use sound::check;
+use tables::Network;
 use tables::parts::fits;
 
 pub mod parts;
 
 // The node's weight, the rows read, and how many edges went with it: their weights stand in the table lent for them.
 #[derive(Clone, Copy)]
-pub enum NodeRemoved {
-    Node(i32, u64, u32),
-    Refused(Refusal),
+pub struct RemovedNode {
+    pub weight: i32,
+    pub rows: u64,
+    pub count: u32,
 }
 
 // Takes out node a with all its edges; the last node takes its place. Only a sound network is changed.
+#[tactic(auto, using(tables::proofs::Guards::guards, tables::proofs::Laws::fitting), unfolding(crate::specs::Closing::remove_node))]
 pub fn remove_node(
     weights: &mut [i32],
     heads: &mut [u32],
@@ -31,21 +34,29 @@ pub fn remove_node(
     m: &mut u32,
     a: NodeIndex,
     items: &mut [u32],
-) -> NodeRemoved
+) -> Result<RemovedNode, Refusal>
     ensures { out (told_node_removed result) (leaving weights.new heads.new registers.new links.new ends.new n.new m.new, items.new)
         ≡ remove_node (entering weights.old heads.old registers.old links.old ends.old n.old m.old) a.0 items.old }
 {
     let nodes = *n;
     let edges = *m;
     if !fits(weights, heads, registers, links, ends, nodes, edges) {
-        return NodeRemoved::Refused(Refusal::Tables);
+        return Err(Refusal::Tables);
     }
     if nodes <= a.0 {
-        return NodeRemoved::Refused(Refusal::NoNode);
+        return Err(Refusal::NoNode);
     }
-    match check(weights, heads, registers, links, ends, nodes, edges) {
-        Checked::Accepted(_) => close(weights, heads, registers, links, ends, n, m, a, items),
-        Checked::Fault(_, _) => NodeRemoved::Refused(Refusal::Broken),
-        Checked::Refused(_) => NodeRemoved::Refused(Refusal::Broken),
+    let net = Network {
+        weights,
+        heads,
+        registers,
+        links,
+        ends,
+        n: nodes,
+        m: edges,
+    };
+    if check(net).is_err() {
+        return Err(Refusal::Broken);
     }
+    close(weights, heads, registers, links, ends, n, m, a, items)
 }

@@ -6,10 +6,10 @@ ghost use Rattle.stripping.specs.Heads.{stripped};
 ghost use Rattle.closing.specs.Closing.{told_node_removed, closed, closed_if_room};
 ghost use Rattle.closing.specs.Parts.{Closable, Ready};
 
-use crate::NodeRemoved;
+use crate::RemovedNode;
 use dropping::parts::drop_node;
 use index::{NodeIndex, Refusal};
-use legs::parts::{Settled, along, settle};
+use legs::parts::{along, settle};
 use lists::Pick;
 use stripping::parts::strip;
 use tables::parts::{INCOMING, OUTGOING};
@@ -25,7 +25,7 @@ pub fn take_node(
     m: &mut u32,
     a: NodeIndex,
     items: &mut [u32],
-) -> NodeRemoved
+) -> Result<RemovedNode, Refusal>
     requires { Ready (net weights.old heads.old registers.old links.old ends.old n.old m.old) a.0 (length items.old) }
     ensures { out (told_node_removed result) (leaving weights.new heads.new registers.new links.new ends.new n.new m.new, items.new)
         ≡ closed (entering weights.old heads.old registers.old links.old ends.old n.old m.old) a.0 items.old
@@ -36,7 +36,11 @@ pub fn take_node(
     let gone = strip(heads, registers, links, ends, nodes, m, a, items);
     let edges = *m;
     let rows = drop_node(weights, heads, links, ends, n, edges, a);
-    NodeRemoved::Node(weight, gone.rows + rows as u64, gone.count)
+    Ok(RemovedNode {
+        weight,
+        rows: gone.rows + u64::from(rows),
+        count: gone.count,
+    })
 }
 
 // The same, unless the table is too short: the two lists are counted first, so that a refusal changes nothing.
@@ -50,7 +54,7 @@ pub fn close(
     m: &mut u32,
     a: NodeIndex,
     items: &mut [u32],
-) -> NodeRemoved
+) -> Result<RemovedNode, Refusal>
     requires { Closable (net weights.old heads.old registers.old links.old ends.old n.old m.old) a.0 }
     ensures { out (told_node_removed result) (leaving weights.new heads.new registers.new links.new ends.new n.new m.new, items.new)
         ≡ closed_if_room (entering weights.old heads.old registers.old links.old ends.old n.old m.old) a.0 items.old }
@@ -58,12 +62,9 @@ pub fn close(
     let edges = *m;
     let first = along(heads, a, OUTGOING, Pick::Every);
     let second = along(heads, a, INCOMING, Pick::NotTo(a));
-    let both = settle(links, ends, edges, first, second);
-    let Settled::Rows(_, _, _, count) = both else {
-        return NodeRemoved::Refused(Refusal::Broken); // no list of a sound network is broken
-    };
-    if items.len() < count as usize {
-        return NodeRemoved::Refused(Refusal::Short);
+    let both = settle(links, ends, edges, first, second).ok_or(Refusal::Broken)?; // no list of a sound network is broken
+    if items.len() < both.count as usize {
+        return Err(Refusal::Short);
     }
     take_node(weights, heads, registers, links, ends, n, m, a, items)
 }

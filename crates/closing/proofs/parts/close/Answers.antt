@@ -1,5 +1,5 @@
 -- The two lists are settled, and their edges counted.
-use Rattle.std.proofs.Common.{arith}
+use Rattle.std.proofs.Common.{◌≡◌, Some, None, arith}
 use Rattle.tables.specs.Net.{net}
 use Rattle.closing.proofs.Closes.{fit_of_lem, both-settled, not_broken, count_is, enough, too_short, long_enough}
 use Rattle.closing.proofs.parts.close.Goals as goal
@@ -10,8 +10,8 @@ along-first-requires c = omega (arith, fit_of_lem c.requires, c.requires.node)
 pub along-second-requires : goal.along-second-requires
 along-second-requires c = omega (arith, fit_of_lem c.requires, c.requires.node)
 
-pub settle-both-requires : goal.settle-both-requires
-settle-both-requires c =
+pub settle-requires : goal.settle-requires
+settle-requires c =
     let f = fit_of_lem c.requires in
     record {
       few = omega (arith, f.edges_most, f.m_within);
@@ -22,30 +22,34 @@ settle-both-requires c =
       second_way = rw c.along-second.ensures (omega arith);
     }
 
-pub returns-in_default : goal.returns-in_default
-returns-in_default c =
+pub returns-in_err-both : goal.returns-in_err-both
+returns-in_err-both c =
     let a = c.args in
     let g = net a.weights.now a.heads.now a.registers.now a.links.now a.ends.now a.n.now a.m.now in
-    let s = both-settled g a.a.0 c.along-first.ensures c.along-second.ensures c.settle-both.ensures in
-    absurd (not_broken _ _ c.requires _ s c.in_default.is)
+    let s = both-settled g a.a.0 c.along-first.ensures c.along-second.ensures c.settle.ensures in
+    let lost : c.settle.result ≡ None = grind arith in
+    absurd (not_broken _ _ c.requires _ s lost)
 
-pub returns-then-items-count : goal.returns-then-items-count
-returns-then-items-count c =
+pub returns-then-items-both : goal.returns-then-items-both
+returns-then-items-both c =
     let a = c.args in
     let g = net a.weights.now a.heads.now a.registers.now a.links.now a.ends.now a.n.now a.m.now in
-    let s = both-settled g a.a.0 c.along-first.ensures c.along-second.ensures c.settle-both.ensures in
-    too_short _ _ c.requires _ _ (count_is _ _ c.requires _ _ _ _ _ s c.in-Rows.is) c.if-items-count.true
+    let s = both-settled g a.a.0 c.along-first.ensures c.along-second.ensures c.settle.ensures in
+    let found : c.settle.result ≡ Some c.in_ok-both.both = grind arith in
+    too_short _ _ c.requires _ _ (count_is _ _ c.requires _ _ s found) c.if-items-both.true
 
 pub take_node-requires : goal.take_node-requires
 take_node-requires c =
     let a = c.args in
     let g = net a.weights.now a.heads.now a.registers.now a.links.now a.ends.now a.n.now a.m.now in
-    let s = both-settled g a.a.0 c.along-first.ensures c.along-second.ensures c.settle-both.ensures in
-    record { closable = c.requires; room = enough _ _ c.requires _ _ (count_is _ _ c.requires _ _ _ _ _ s c.in-Rows.is) c.if-items-count.false }
+    let s = both-settled g a.a.0 c.along-first.ensures c.along-second.ensures c.settle.ensures in
+    let found : c.settle.result ≡ Some c.in_ok-both.both = grind arith in
+    record { closable = c.requires; room = enough _ _ c.requires _ _ (count_is _ _ c.requires _ _ s found) c.if-items-both.false }
 
 pub returns : goal.returns
 returns c =
     let a = c.args in
     let g = net a.weights.now a.heads.now a.registers.now a.links.now a.ends.now a.n.now a.m.now in
-    let s = both-settled g a.a.0 c.along-first.ensures c.along-second.ensures c.settle-both.ensures in
-    long_enough _ _ c.requires _ _ _ (count_is _ _ c.requires _ _ _ _ _ s c.in-Rows.is) c.if-items-count.false c.take_node.ensures
+    let s = both-settled g a.a.0 c.along-first.ensures c.along-second.ensures c.settle.ensures in
+    let found : c.settle.result ≡ Some c.in_ok-both.both = grind arith in
+    long_enough _ _ c.requires _ _ _ (count_is _ _ c.requires _ _ s found) c.if-items-both.false c.take_node.ensures

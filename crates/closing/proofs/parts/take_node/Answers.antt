@@ -33,5 +33,6 @@ returns c =
     let s = c.strip-gone.ensures in
     let e = c.drop_node-rows.ensures in
     let weight : to_z w32 (of_z w32 (get_or W c.index.result (pos 0))) ≡ get_or W c.index.result (pos 0) = search rules in
-    node-taken _ _ _ _ _ _ _ _ s.given _ _ _ _ _ _ _ _ _ _ c.index.ensures weight (s.rest W) s.count_is s.items_are
-    e.moved.weights_are e.moved.heads_are e.ends_are e.nodes e.rows_are
+    rw c.from.ensures
+    (node-taken _ _ _ _ _ _ _ _ s.given _ _ _ _ _ _ _ _ _ _ c.index.ensures weight (s.rest W) s.count_is s.items_are
+    e.moved.weights_are e.moved.heads_are e.ends_are e.nodes e.rows_are)
