@@ -7,16 +7,16 @@ use native.Mathlib.Nat.{not-suc-le-zero, zero-add}
 use native.Mathlib.Numerals.{add-one}
 use native.Mathlib.Decide.{ℕ_discrete}
 use native.Mathlib.Omega.{arith}
-use borrow.Author.Tests.{eq-eqb, ne_eqb, lt-ltb, le-ltb, eqb-true, ltb-true}
+use borrow.Author.Tests.{eq-eqb, ne_eqb, lt-ltb, eqb-true, ltb-true}
 use lib.Dec.{eqb, ltb}
-use lib.ListN.{length, get_or, set, take}
+use lib.ListN.{length, get_or, take}
 use Rattle.std.specs.List.{list_all, range_with_len, enumerate_from}
 use lib.Seq.{take-length}
 use Rattle.std.proofs.lemmas.List.Folds.{list_all_more}
 use Rattle.std.proofs.lemmas.List.FromFn.{length-range_with_len, get_or-range_with_len, length-enumerate_from, get_or-enumerate_from}
 use Rattle.index.specs.Index.{END}
 use Rattle.tables.proofs.Laws.{both}
-use Rattle.directory.specs.Directory.{entry, Right, every, row_named, bears, stands, entry_stands, rows_named, entries_stand, is_right, followed, register_in}
+use Rattle.directory.specs.Directory.{entry, Right, every, row_named, bears, stands, entry_stands, rows_named, entries_stand, is_right}
 use Rattle.directory.proofs.Laws.{inside}
 
 and_false : (a b : Bool) → b ≡ false → (a && b) ≡ false
@@ -117,13 +117,3 @@ module _ (number : ℕ → ℕ) (m : ℕ) (d : List ℕ) where
       all_listed (λ (p : ℕ × ℕ). stands number m p.1 p.0) (entry_stands number m d) (enumerate_from 0 d) (0, END) (length d) (length-enumerate_from 0 d)
       (λ k h. ap (λ (p : ℕ × ℕ). stands number m p.1 p.0)
       (get_or-enumerate_from 0 d k (0, END) (omega (arith, length-enumerate_from 0 d)) ∙ ap (λ (x : ℕ). (x, entry d k)) (zero-add k)))
-
--- what the cells set after a removal come to
-pub follow_on : (registers d c b : List ℕ) (m w e i : ℕ) → c ≡ set d w END → b ≡ set c (get_or registers i 0) e → i ≡ e → e < m
-    → b ≡ followed (register_in registers) m w e d
-unfolding followed
-follow_on registers d c b m w e i p q z h = rw (lt-ltb e m h, q, p, z)
-
-pub follow_off : (registers d c : List ℕ) (m w e : ℕ) → c ≡ set d w END → m ≤ e → c ≡ followed (register_in registers) m w e d
-unfolding followed
-follow_off registers d c m w e p h = rw (le-ltb e m h, p)

@@ -67,6 +67,7 @@ pub fn entries_stand(registers: &[u32], m: u32, directory: &[u32]) -> bool
 }
 
 // The directory is right for these rows.
+#[tactic(auto, unfolding(crate::specs::Directory::is_right))]
 pub fn is_right(registers: &[u32], m: u32, directory: &[u32]) -> bool
     requires { m ≤ length registers.now }
     ensures { result ≡ is_right (register_in registers.now) m directory.now }
@@ -75,6 +76,7 @@ pub fn is_right(registers: &[u32], m: u32, directory: &[u32]) -> bool
 }
 
 // The edge of row e, which bore number w, is out, and m rows are left: w stands in none, and the row that is e now, if one is, has its entry there.
+#[tactic(auto, unfolding(crate::specs::Directory::followed))]
 pub fn follow(directory: &mut [u32], registers: &[u32], m: u32, w: u32, e: EdgeIndex)
     requires { e.0 < length registers.now }
     ensures { directory.new ≡ followed (register_in registers.now) m w e.0 directory.old }
