@@ -5,27 +5,27 @@ use mathlib.Core.List.{List}
 use native.Mathlib.Omega.{arith}
 use lib.IntN.{ℤ}
 use lib.ListN.{length}
-use Rattle.index.specs.declared.EdgeIndex.{EdgeIndex}
+use Rattle.std.specs.Prelude.{Result, Ok}
+use Rattle.index.specs.declared.Refusal.{Refusal}
 use Rattle.tables.specs.Net.{net}
 use Rattle.tables.specs.Answers.{out}
-use Rattle.removal.specs.declared.EdgeRemoved.{EdgeRemoved}
-use Rattle.removal.specs.declared.EdgeRemoved.TheVariants as EdgeRemoved·
-use Rattle.removal.specs.Removal.{told_edge_removed, taken_out}
+use Rattle.removal.specs.declared.removed.RemovedEdge.{RemovedEdge}
+use Rattle.removal.specs.Removal.{moved_no, told_edge_removed, taken_out}
 use Rattle.stripping.proofs.Headwise.{Alive}
 use Rattle.directory.specs.Directory.{register_in, Right, directory_of}
 use Rattle.directory.proofs.Laws.{right_is}
 use Rattle.dirremoval.specs.Parts.{directory_after}
 use Rattle.dirremoval.proofs.Kept.{taken_right}
 
-pub right_turned : {n : ℕ} {H R L E : List ℕ} {m : ℕ} → Alive n H R L E m → {H' R' L' E' : List ℕ} {m' : ℕ} {r : EdgeRemoved}
-    → (w : ℕ) (moved : EdgeIndex) (read e : ℕ) (D : List ℕ) {D' : List ℕ} → r ≡ EdgeRemoved·.Edge w moved read → e < m
+pub right_turned : {n : ℕ} {H R L E : List ℕ} {m : ℕ} → Alive n H R L E m → {H' R' L' E' : List ℕ} {m' : ℕ} {r : Result RemovedEdge Refusal}
+    → (x : RemovedEdge) (e : ℕ) (D : List ℕ) {D' : List ℕ} → r ≡ Ok x → e < m
     → ((T : List ℤ) → out (told_edge_removed r) (net T H' R' L' E' n m') ≡ taken_out (net T H R L E n m) e)
     → D' ≡ directory_after r R' m' e D → Right (register_in R) m D → Right (register_in R') m' D'
-right_turned {n} {H} {R} {L} {E} {m} A {H'} {R'} {L'} {E'} {m'} {r} w moved read e D {D'} p lt is q P =
+right_turned {n} {H} {R} {L} {E} {m} A {H'} {R'} {L'} {E'} {m'} {r} x e D {D'} p lt is q P =
     let T = A.totals in
-    let told = ap (λ x. out (told_edge_removed x) (net T H' R' L' E' n m')) (sym p) ∙ is T in
-    rw (q ∙ ap (λ x. directory_after x R' m' e D) p)
-    (taken_right (net T H R L E n m) (net T H' R' L' E' n m') A.lists e w moved.0 read D A.fit A.sound lt P told)
+    let told = ap (λ y. out (told_edge_removed y) (net T H' R' L' E' n m')) (sym p) ∙ is T in
+    rw (q ∙ ap (λ y. directory_after y R' m' e D) p)
+    (taken_right (net T H R L E n m) (net T H' R' L' E' n m') A.lists e x.weight (moved_no x.moved) x.rows D A.fit A.sound lt P told)
 
 -- a right directory of as many cells is the directory of the rows
 pub directory_so : (R : List ℕ) (m : ℕ) (D D₀ : List ℕ) → Right (register_in R) m D → length D ≡ length D₀ → m ≤ 65536
