@@ -10,6 +10,8 @@ use native.Mathlib.Omega.{arith}
 use borrow.Author.Tests.{lt-ltb, le-ltb}
 use lib.Dec.{eqb, ltb}
 use lib.ListN.{length, get_or, set}
+use Rattle.std.proofs.Common as std
+use Rattle.std.proofs.Common.{Ok, Err}
 use Rattle.index.specs.declared.Refusal.TheVariants.{Broken, NoNode, Nothing}
 use Rattle.index.specs.Index.{END}
 use Rattle.tables.specs.Net.{Net, fits, with_edges, node_cell}
@@ -20,9 +22,7 @@ use Rattle.lists.specs.declared.Pick.TheVariants.{To}
 use Rattle.lists.specs.Walk.{cell, link_at, walk, stop, filter, picks, broken}
 use Rattle.lists.proofs.Chains.{chain_ends}
 use Rattle.lists.proofs.Walks.{taken_below}
-use Rattle.find.specs.declared.Sought.{Sought}
-use Rattle.find.specs.declared.Sought.TheVariants.{Row, Missing, Endless}
-use Rattle.find.specs.Parts.{first_in, sought_from}
+use Rattle.find.specs.Parts.{Sought, first_in, sought_from}
 use Rattle.find.specs.Find.{sought, on, find_edge, contains_edge, update_edge}
 use Rattle.sound.specs.Sound.{Sound}
 use Rattle.sound.proofs.Exactly.{small}
@@ -47,9 +47,9 @@ spent goes_on = cond goes_on endless (returns none)
 
 -- the Rust's run for what ours has sought
 abbrev sought_run : Sought → Run (Option ℕ)
-sought_run (Row e k) = returns (some e.0)
-sought_run Missing = returns none
-sought_run Endless = endless
+sought_run (Ok (std.Some row)) = returns (some row.0.0)
+sought_run (Ok std.None) = returns none
+sought_run (Err why) = endless
 
 module _ (g : Net) (k b : ℕ) (hk : k < 2) where
   abbrev matches : ℕ → Bool
@@ -76,7 +76,7 @@ module _ (g : Net) (k b : ℕ) (hk : k < 2) where
 
 -- both directions
 both_ways : (xs ys : List ℕ) (p q : Bool)
-    → (first_or xs (spent p) >>= λ found. on_option found (first_or ys (spent q)) (λ edix. returns (some edix))) ≡ sought_run (first_in 0 xs p (first_in 1 ys q Missing))
+    → (first_or xs (spent p) >>= λ found. on_option found (first_or ys (spent q)) (λ edix. returns (some edix))) ≡ sought_run (first_in 0 xs p (first_in 1 ys q (Ok std.None)))
 both_ways (x ∷ xs) ys p q = refl
 both_ways [] ys true q = refl
 both_ways [] (y ∷ ys) false q = refl
@@ -103,7 +103,7 @@ module _ (g : Net) (ls : ℕ → ℕ → List ℕ) (f : fits g ≡ true) (S : So
   abbrev hits : ℕ → List ℕ
   hits k = picks g k (To (record { 0 = b })) a
 
-  ended : a < g.n → sought g a b ≡ first_in 0 (hits 0) false (first_in 1 (hits 1) false Missing)
+  ended : a < g.n → sought g a b ≡ first_in 0 (hits 0) false (first_in 1 (hits 1) false (Ok std.None))
   unfolding sought_from
   ended l =
       rw (
@@ -111,7 +111,7 @@ module _ (g : Net) (ls : ℕ → ℕ → List ℕ) (f : fits g ≡ true) (S : So
         chain_ends (link_at g 1) g.m (small g f) (Head a) (ls 1 a) (S.all_end 1 a (omega arith) l),
       )
 
-  found_so : (xs ys : List ℕ) (s : Sought) → s ≡ first_in 0 xs false (first_in 1 ys false Missing)
+  found_so : (xs ys : List ℕ) (s : Sought) → s ≡ first_in 0 xs false (first_in 1 ys false (Ok std.None))
       → Ends (sought_run s) (λ o. on s (λ e. done e) (refused Nothing 0) (refused Broken 0) ≡ option_told Nothing 0 o)
   found_so (x ∷ xs) ys s q = rw q (some x, refl, refl)
   found_so [] (y ∷ ys) s q = rw q (some y, refl, refl)
@@ -125,7 +125,7 @@ module _ (g : Net) (ls : ℕ → ℕ → List ℕ) (f : fits g ≡ true) (S : So
         | no l ↦ rw (find-run g a b, f, le-ltb a g.n (omega arith)) (none, refl, refl)
       ]
 
-  held_so : (xs ys : List ℕ) (s : Sought) → s ≡ first_in 0 xs false (first_in 1 ys false Missing)
+  held_so : (xs ys : List ℕ) (s : Sought) → s ≡ first_in 0 xs false (first_in 1 ys false (Ok std.None))
       → Ends (sought_run s >>= λ found. returns (on_option found false (λ edix. true))) (λ holds. on s (λ e. done {A = ℕ} 1) (done 0) (refused Broken 0) ≡ done (cond holds 1 0))
   held_so (x ∷ xs) ys s q = rw q (true, refl, refl)
   held_so [] (y ∷ ys) s q = rw q (true, refl, refl)
@@ -166,7 +166,7 @@ module _ (g : Net) (a b w : ℕ) (f : fits g ≡ true) where
   hit e l = rw (edge-written g f e w l)
 
   updated_so : (xs ys : List ℕ) (p q : Bool) (s : Sought) → ((x : ℕ) (rest : List ℕ) → xs ≡ x ∷ rest → x < g.m) → ((y : ℕ) (rest : List ℕ) → ys ≡ y ∷ rest → y < g.m)
-      → s ≡ first_in 0 xs p (first_in 1 ys q Missing)
+      → s ≡ first_in 0 xs p (first_in 1 ys q (Ok std.None))
       → ((on s rewritten (add_edge g a b w) (out (refused Broken 0) g)).answer.number ≡ 2 → ⊥)
       → seen (on s rewritten (add_edge g a b w) (out (refused Broken 0) g)) ≡ run_told NoNode 0 (rows_of g) (sought_run s >>= updated_by)
   updated_so (x ∷ xs) ys p q s i j e = rw e (λ n. hit x (i x xs refl))
@@ -175,7 +175,7 @@ module _ (g : Net) (a b w : ℕ) (f : fits g ≡ true) where
   updated_so [] [] false true s i j e = rw e (λ n. refl)
   updated_so [] [] false false s i j e = rw e add_edge_so
 
-  sought-is : sought g a b ≡ first_in 0 (picks g 0 (To (record { 0 = b })) a) (broken g 0 a) (first_in 1 (picks g 1 (To (record { 0 = b })) a) (broken g 1 a) Missing)
+  sought-is : sought g a b ≡ first_in 0 (picks g 0 (To (record { 0 = b })) a) (broken g 0 a) (first_in 1 (picks g 1 (To (record { 0 = b })) a) (broken g 1 a) (Ok std.None))
   unfolding sought_from
   sought-is = refl
 

@@ -11,8 +11,8 @@ use Rattle.tables.specs.Net.{Net, net, node_cells, edge_cells}
 use Rattle.lists.specs.declared.Spot.{Spot}
 use Rattle.lists.specs.declared.Spot.TheVariants.{Head, After}
 use Rattle.lists.specs.Walk.{link_at}
-use Rattle.links.specs.declared.Search.TheVariants.{At, Lost}
-use Rattle.links.specs.Links.{seek, heads_at, links_at, led}
+use Rattle.std.proofs.Common.{None, Some}
+use Rattle.links.specs.Links.{Search, seek, heads_at, links_at, led}
 use Rattle.links.proofs.Stores.{lead_off, heads_length, links_length}
 use Rattle.links.proofs.Seeks.{seek_found, seek-on, seek-past}
 use Rattle.original.specs.Std.{returns, Two, ◌!◌}
@@ -25,8 +25,16 @@ use Rattle.alike.proofs.Cells.{head_at, next_at, head-led, link_led}
 abbrev pub led_at : Net → (k : ℕ) → Spot → ℕ → Net
 led_at g k s v = net g.weights (heads_at k s v g.heads) g.registers (links_at k s v g.links) g.ends g.n g.m
 
-not_lost : {s : Spot} {r : ℕ} → Lost ≡ At s r → ⊥
+not_lost : {s : Spot} {r : ℕ} → ◌≡◌ {A = Search} None (Some (s, r)) → ⊥
 not_lost h = let z : ◌≡◌ {A = ℕ} 0 1 = cc in omega arith
+
+-- where a search found the link
+abbrev place_found : Search → Spot
+place_found (Some found) = found.0
+place_found None = Head 0
+
+spot_is : {s t : Spot} {q r : ℕ} → ◌≡◌ {A = Search} (Some (s, q)) (Some (t, r)) → s ≡ t
+spot_is h = ap place_found h
 
 module _ (g : Net) (k e v : ℕ) (hk : k < 2) (heads_hold : node_cells * g.n ≤ length g.heads) (links_hold : edge_cells * g.m ≤ length g.links) where
   -- the walk from row x on leads the link at spot s elsewhere, and s is no head
@@ -45,16 +53,16 @@ module _ (g : Net) (k e v : ℕ) (hk : k < 2) (heads_hold : node_cells * g.n ≤
       )
 
   -- along the list, from row x on
-  along : (left x rows : ℕ) (s : Spot) (r : ℕ) → x < g.m → seek (link_at g k) g.m e left (After x) rows ≡ At s r → Leads (suc left) x s
+  along : (left x rows : ℕ) (s : Spot) (r : ℕ) → x < g.m → seek (link_at g k) g.m e left (After x) rows ≡ Some (s, r) → Leads (suc left) x s
   unfolding seek lead_past
   along zero x rows s r l h =
       elim (ℕ_discrete (link_at g k (After x)) e) [
-        | yes q ↦ (let z : At (After x) rows ≡ At s r = rw (eq-eqb (link_at g k (After x)) e q) at h in after_led zero x s l q (cc))
+        | yes q ↦ (let z : ◌≡◌ {A = Search} (Some (After x, rows)) (Some (s, r)) = rw (eq-eqb (link_at g k (After x)) e q) at h in after_led zero x s l q (spot_is z))
         | no q ↦ absurd (not_lost (rw (ne_eqb (link_at g k (After x)) e q) at h))
       ]
   along (suc left) x rows s r l h =
       elim (ℕ_discrete (link_at g k (After x)) e) [
-        | yes q ↦ (let z : At (After x) rows ≡ At s r = rw (eq-eqb (link_at g k (After x)) e q) at h in after_led (suc left) x s l q (cc))
+        | yes q ↦ (let z : ◌≡◌ {A = Search} (Some (After x, rows)) (Some (s, r)) = rw (eq-eqb (link_at g k (After x)) e q) at h in after_led (suc left) x s l q (spot_is z))
         | no q ↦
             elim (dec_lt (link_at g k (After x)) g.m) [
               | yes b ↦
@@ -65,21 +73,21 @@ module _ (g : Net) (k e v : ℕ) (hk : k < 2) (heads_hold : node_cells * g.n ≤
       ]
 
   -- from the head of node a's list on
-  pub one_way_lem : (node next : Two) (a : ℕ) (s : Spot) (r : ℕ) → node ! k ≡ a → next ! k ≡ v → a < g.n → seek (link_at g k) g.m e g.m (Head a) 0 ≡ At s r
+  pub one_way_lem : (node next : Two) (a : ℕ) (s : Spot) (r : ℕ) → node ! k ≡ a → next ! k ≡ v → a < g.n → seek (link_at g k) g.m e g.m (Head a) 0 ≡ Some (s, r)
       → change_links_of node e next k (rows_of g) ≡ returns (rows_of (led_at g k s v))
   unfolding change_links_of rows_of heads_at links_at
   one_way_lem node next a s r p q l h =
       elim (ℕ_discrete (link_at g k (Head a)) e) [
         | yes z ↦
-            (let w : At (Head a) 0 ≡ At s r = sym (seek_found (link_at g k) g.m e (Head a) 0 refl g.m z) ∙ h in
-            let t : Head a ≡ s = cc in
+            (let w : ◌≡◌ {A = Search} (Some (Head a, 0)) (Some (s, r)) = sym (seek_found (link_at g k) g.m e (Head a) 0 refl g.m z) ∙ h in
+            let t : Head a ≡ s = spot_is w in
             rw (← t, p, q, got g.n (node_at g) a l, head_at g a k hk, eq-eqb (link_at g k (Head a)) e z)
             (ap (λ (rows : List Node). returns (graph rows (rows_below g.m (edge_at g)))) (head-led g k v hk a l heads_hold)))
         | no z ↦
             elim (dec_lt (link_at g k (Head a)) g.m) [
               | yes b ↦
                   (let t : g.m ≡ suc (g.m - 1) = omega arith in
-                  let w : seek (link_at g k) g.m e (g.m - 1) (After (link_at g k (Head a))) 1 ≡ At s r =
+                  let w : seek (link_at g k) g.m e (g.m - 1) (After (link_at g k (Head a))) 1 ≡ Some (s, r) =
                   sym (ap (λ left. seek (link_at g k) g.m e left (Head a) 0) t ∙ seek-on (link_at g k) g.m e (Head a) 0 refl (g.m - 1) z b) ∙ h in
                   let found = along (g.m - 1) (link_at g k (Head a)) 1 s r b w in
                   let led-so = ap (λ turns. lead_past turns k e v (rows_below g.m (edge_at g)) (link_at g k (Head a))) t ∙ found.0 in
@@ -91,7 +99,7 @@ module _ (g : Net) (k e v : ℕ) (hk : k < 2) (heads_hold : node_cells * g.n ≤
 -- both directions, one after the other
 pub both_ways : (g : Net) (e : ℕ) (node next : Two) (s t : Spot) (q r : ℕ) → node_cells * g.n ≤ length g.heads → edge_cells * g.m ≤ length g.links
     → node ! 0 < g.n → node ! 1 < g.n
-    → seek (link_at g 0) g.m e g.m (Head (node ! 0)) 0 ≡ At s q → seek (link_at g 1) g.m e g.m (Head (node ! 1)) 0 ≡ At t r
+    → seek (link_at g 0) g.m e g.m (Head (node ! 0)) 0 ≡ Some (s, q) → seek (link_at g 1) g.m e g.m (Head (node ! 1)) 0 ≡ Some (t, r)
     → change_edge_links (rows_of g) node e next ≡ returns (rows_of (led g s t (next ! 0) (next ! 1)))
 unfolding change_edge_links led
 both_ways g e node next s t q r hh hl la lb p w =

@@ -6,6 +6,7 @@ use mathlib.Core.Logic.{inl, inr}
 use mathlib.Core.Bool.{true}
 use mathlib.Core.List.{List, [], ◌∷◌}
 use mathlib.Core.Option.{none, some}
+use Rattle.std.proofs.Common.{Some}
 use native.Mathlib.Nat.{add-zero, not-suc-le-zero}
 use native.Mathlib.Decide.{ℕ_discrete, dec_lt}
 use native.Mathlib.Omega.{arith}
@@ -25,7 +26,6 @@ use Rattle.sound.specs.Sound.{end_at, Sound}
 use Rattle.sound.proofs.Listings.{in_tail}
 use Rattle.sound.proofs.Exactly.{small}
 use Rattle.sound.proofs.Kept.{fit_of}
-use Rattle.links.specs.declared.Search.TheVariants.{At}
 use Rattle.links.specs.Links.{seek, searched, led}
 use Rattle.removal.specs.Removal.{Gone, weight_told, bypassed, last_out, last_into, taken_out, remove_edge}
 use Rattle.removal.specs.Lists.{pos, renamed, left}
@@ -48,7 +48,7 @@ use Rattle.alike.proofs.Leading.{both_ways}
 -- list's first spot and after all its rows but l
 module _ (lk lk' : Spot → ℕ) (l : ℕ) where
   found-again : (left : ℕ) (s : Spot) (rows : ℕ) (xs : List ℕ) → Chain lk (suc l) s xs → In l xs → lk' s ≡ lk s
-      → ((y : ℕ) → In y xs → (y ≡ l → ⊥) → lk' (After y) ≡ lk (After y)) → pos l xs ≤ left → seek lk' l l left s rows ≡ At (spot_of l s xs) (rows + pos l xs)
+      → ((y : ℕ) → In y xs → (y ≡ l → ⊥) → lk' (After y) ≡ lk (After y)) → pos l xs ≤ left → seek lk' l l left s rows ≡ Some (spot_of l s xs, rows + pos l xs)
   found-again left s rows [] c i q same h = absurd i
   found-again zero s rows (x ∷ xs) c i q same h =
       elim (ℕ_discrete x l) [
@@ -114,7 +114,7 @@ module _ (h : Net) (e l : ℕ) (f : fits h ≡ true) (many : h.m ≡ suc l) wher
 
   -- another goes, and the links to the last row are led to the place that it has now
   pub another_gone : e < l → (u v : Spot) (q r : ℕ) → end_at h 0 l < h.n → end_at h 1 l < h.n
-      → seek (link_at (swap h e l) 0) l l l (Head (end_at h 0 l)) 0 ≡ At u q → seek (link_at (swap h e l) 1) l l l (Head (end_at h 1 l)) 0 ≡ At v r
+      → seek (link_at (swap h e l) 0) l l l (Head (end_at h 0 l)) 0 ≡ Some (u, q) → seek (link_at (swap h e l) 1) l l l (Head (end_at h 1 l)) 0 ≡ Some (v, r)
       → remove_edge_adjust_indices (rows_of h) e ≡ returns (some (get_or h.registers e 0), rows_of (led (swap h e l) u v e e))
   unfolding remove_edge_adjust_indices rows_of swap with_edge
   another_gone b u v q r la lb p w =
@@ -214,7 +214,7 @@ module _ (g : Net) (ls : ℕ → ℕ → List ℕ) (e : ℕ) (f : fits g ≡ tru
   bypassing =
       let t = fit_of g f in
       let B = all g ls e f S lt in
-      let seeks : (k : ℕ) → k < 2 → seek (link_at g k) g.m e g.m (Head (end_at g k e)) 0 ≡ At (leader g ls e k) (pos e (ls k (end_at g k e))) =
+      let seeks : (k : ℕ) → k < 2 → seek (link_at g k) g.m e g.m (Head (end_at g k e)) 0 ≡ Some (leader g ls e k, pos e (ls k (end_at g k e))) =
       λ k h.
       (let b = (B k h).has_end e lt in
       rw (lt-ltb (end_at g k e) g.n b) at (found_at (link_at g k) g.m e (small g f) (end_at g k) g.n (ls k (end_at g k e)) b ((B k h).chain (end_at g k e) b) ((B k h).listed e lt (omega arith)))) in
@@ -262,7 +262,7 @@ module _ (g : Net) (ls : ℕ → ℕ → List ℕ) (e : ℕ) (f : fits g ≡ tru
     unfolding swap with_edge
     head_same k a = refl
 
-    again : (k : ℕ) → k < 2 → seek (link_at (swap bypass e l) k) l l l (Head (c k)) 0 ≡ At (leader bypass (left e ls) l k) (0 + pos l (xs k))
+    again : (k : ℕ) → k < 2 → seek (link_at (swap bypass e l) k) l l l (Head (c k)) 0 ≡ Some (leader bypass (left e ls) l k, 0 + pos l (xs k))
     again k h =
         found-again (link_at bypass k) (link_at (swap bypass e l) k) l l (Head (c k)) 0 (xs k) (chain k h) (has k h) (head_same k (c k))
         (λ y i d.
