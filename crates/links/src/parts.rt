@@ -19,27 +19,27 @@ pub fn change_link(
     m: u32,
     k: usize,
     a: NodeIndex,
-    first: u32,
+    first: EdgeIndex,
     e: EdgeIndex,
     v: u32,
 ) -> Option<(Spot, u32)>
-    requires { Start heads.old (length links.old) m k a.0 first }
+    requires { Start heads.old (length links.old) m k a.0 first.0 }
     ensures { ChangesLink (loan heads.old heads.new) (loan links.old links.new) m k a.0 e.0 v result }
 {
-    if first == e.0 {
+    if first == e {
         heads[NODE_CELLS * a.index() + k] = v;
         return Some((Spot::Head(a.0), 0));
     }
     let mut link = first;
     for rows in 0..m {
-        if m <= link {
+        if m <= link.0 {
             return None;
         }
-        let cell = EDGE_CELLS * EdgeIndex(link).index() + k;
-        let next = links[cell];
-        if next == e.0 {
+        let cell = EDGE_CELLS * link.index() + k;
+        let next = EdgeIndex(links[cell]);
+        if next == e {
             links[cell] = v;
-            return Some((Spot::After(link), rows + 1));
+            return Some((Spot::After(link.0), rows + 1));
         }
         link = next;
     }
@@ -69,8 +69,8 @@ pub fn change_edge_links(
     if n <= b.0 {
         return None;
     }
-    let first = heads[NODE_CELLS * a.index() + OUTGOING];
-    let second = heads[NODE_CELLS * b.index() + INCOMING];
+    let first = EdgeIndex(heads[NODE_CELLS * a.index() + OUTGOING]);
+    let second = EdgeIndex(heads[NODE_CELLS * b.index() + INCOMING]);
     let (outgoing, read) = change_link(heads, links, m, OUTGOING, a, first, e, v)?;
     let Some((incoming, more)) = change_link(heads, links, m, INCOMING, b, second, e, w) else {
         relink(heads, links, OUTGOING, outgoing, e.0);

@@ -15,6 +15,8 @@ pub struct Stripped {
 }
 
 // Takes out the edges of node a, each from the head of its list; their weights go to the table.
+// `dirstripping` has this loop with a directory. One loop over a trait of `take_out` is no plainer: each impl of it, with its eight
+// parameters, is as long as the loop, and the one without a directory would be lent an empty one.
 pub fn strip(
     heads: &mut [u32],
     registers: &mut [u32],
