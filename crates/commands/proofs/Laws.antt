@@ -1,17 +1,23 @@
--- An answer as a reply: a refusal's, `refused_reply`; a call's, `tells_so`, and with what it leaves, `replies_so`; a number's, `number_so`. Assumes nothing.
-use Prim.Native.Nat.{ℕ, ◌^◌, ◌<◌}
-use mathlib.Core.Path.{◌≡◌, refl, ap, ◌∙◌}
-use mir.Syntax.{w64}
-use mir.Val.{to_z}
-use mir.Facts.{to_z_pos}
+-- An answer as a reply: a refusal's, `refused_reply`; a call's, `answers_told`. Assumes nothing.
+use Prim.Native.Nat.{ℕ}
+use mathlib.Core.Path.{◌≡◌, refl}
 use Rattle.index.specs.declared.Refusal.{Refusal}
 use Rattle.index.specs.declared.Refusal.TheVariants.{Tables, Full, NoNode, NoEdge, Nothing, Broken, Short, NotImage, Version, NotCommand}
 use Rattle.index.specs.declared.Refusal.TheVariants.{Taken, Beyond, NotBare, NoRanking, Outside, TooDeep, Fell, Overflow}
 use Rattle.index.specs.Refusals.{refusal_no}
-use Rattle.tables.specs.Answers.{Told, Out, out, refused}
+use Rattle.index.specs.declared.NodeIndex.{NodeIndex}
+use Rattle.index.specs.declared.EdgeIndex.{EdgeIndex}
+use Rattle.std.specs.Prelude.{Result, Ok, Err}
+use Rattle.tables.specs.Answers.{refused, told_as, told_node, told_edge, told_change, told_items}
+use Rattle.commands.specs.Parts.{reply_of}
 use Rattle.reply.specs.declared.Reply.{Reply}
 use Rattle.reply.specs.Replies.{bare_reply}
-use Rattle.commands.specs.Commands.{one_value, one_number, reply_to, replied, replies}
+use Prim.{Unit, tt}
+use lib.IntN.{ℤ, pos}
+use Rattle.walker.specs.Sums.{told_summed}
+use Rattle.removal.specs.declared.removed.RemovedEdge.{RemovedEdge}
+use Rattle.removal.specs.Removal.{moved_no, told_edge_removed}
+use Rattle.commands.specs.Commands.{nothing, one_value, one_number, counted, edge_gone, reply_to}
 
 module _ {A : Type 0} (letter : ℕ) (served : ℕ → A → Reply) where
   -- no refusal has the number 0
@@ -35,13 +41,29 @@ module _ {A : Type 0} (letter : ℕ) (served : ℕ → A → Reply) where
   refused_reply zeros Fell = refl
   refused_reply zeros Overflow = refl
 
-  pub tells_so : {r : Reply} {told by_call : Told A} → r ≡ reply_to letter served told → told ≡ by_call → r ≡ reply_to letter served by_call
-  tells_so e q = e ∙ ap (reply_to letter served) q
+-- what a call answers, replied, is the reply to what it tells
+reply_told : {A B : Type 0} (value : A → B) (zeros : B) (letter : ℕ) (served : ℕ → B → Reply) (answer : Result A Refusal)
+    → reply_of letter (λ l x. served l (value x)) answer ≡ reply_to letter served (told_as value zeros answer)
+reply_told value zeros letter served (Ok x) = refl
+reply_told value zeros letter served (Err why) = refused_reply letter served zeros why
 
-  pub replies_so : {S : Type 0} {r : Reply} {told : Told A} {after : S} {o : Out A S} → r ≡ reply_to letter served told → out told after ≡ o
-      → replied r after ≡ replies letter served o
-  replies_so {S} {r} {told} {after} {o} e q = ap (λ x. replied x after) e ∙ ap (replies letter served) q
+pub node_told : (letter : ℕ) (answer : Result NodeIndex Refusal) → reply_of letter (λ l a. one_number l a.0) answer ≡ reply_to letter one_number (told_node answer)
+node_told letter answer = reply_told (λ (a : NodeIndex). a.0) 0 letter one_number answer
 
--- a number told as a signed one
-pub number_so : {r : Reply} {letter x : ℕ} → r ≡ one_value letter (to_z w64 x) → x < 2 ^ 63 → r ≡ one_number letter x
-number_so {r} {letter} e h = e ∙ ap (one_value letter) (to_z_pos w64 h)
+pub edge_told : (letter : ℕ) (answer : Result EdgeIndex Refusal) → reply_of letter (λ l e. one_number l e.0) answer ≡ reply_to letter one_number (told_edge answer)
+edge_told letter answer = reply_told (λ (e : EdgeIndex). e.0) 0 letter one_number answer
+
+pub items_told : (letter : ℕ) (answer : Result ℕ Refusal) → reply_of letter counted answer ≡ reply_to letter counted (told_items answer)
+items_told letter answer = reply_told (λ (c : ℕ). c) 0 letter counted answer
+
+pub sum_told : (letter : ℕ) (answer : Result ℤ Refusal) → reply_of letter one_value answer ≡ reply_to letter one_value (told_summed answer)
+sum_told letter answer = reply_told (λ (z : ℤ). z) (pos 0) letter one_value answer
+
+pub change_told : (letter : ℕ) (answer : Result Unit Refusal) → reply_of letter nothing answer ≡ reply_to letter nothing (told_change answer)
+change_told letter answer = reply_told (λ (u : Unit). tt) tt letter nothing answer
+
+pub gone_told : (letter : ℕ) (answer : Result RemovedEdge Refusal)
+    → reply_of letter (λ l x. edge_gone l (x.weight, moved_no x.moved, x.rows)) answer ≡ reply_to letter edge_gone (told_edge_removed answer)
+gone_told letter answer = reply_told (λ (x : RemovedEdge). (x.weight, moved_no x.moved, x.rows)) (0, 0, 0) letter edge_gone answer
+
+pub ruleset answers_told = (node_told, edge_told, items_told, sum_told, change_told, gone_told)

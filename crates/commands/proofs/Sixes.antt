@@ -22,9 +22,8 @@ use Rattle.lists.proofs.Chains.{chain_ends}
 use Rattle.legs.specs.Legs.{Tables3, room_for, give_three}
 use Rattle.walks.specs.Walks.{walked, neighbors, edges, edges_mut, edges_between}
 use Rattle.tables.proofs.Laws.{tested}
-use Rattle.find.specs.declared.Sought.{Sought}
-use Rattle.find.specs.declared.Sought.TheVariants.{Missing}
-use Rattle.find.specs.Parts.{first_in, searched, sought_from}
+use Rattle.std.specs.Prelude.{Ok, None}
+use Rattle.find.specs.Parts.{Sought, first_in, searched, sought_from}
 use Rattle.find.specs.Find.{sought, on, find_edge, update_edge}
 use Rattle.walker.specs.Sums.{present, sum_around}
 use Rattle.sound.specs.Sound.{Sound}
@@ -120,9 +119,9 @@ module _ (g : Net) (ls : ℕ → ℕ → List ℕ) (f : fits g ≡ true) (S : So
   unfolding sought_from
   sought_ways P found missing endless a b l p q =
       let to = To (record { 0 = b }) in
-      let incoming = searched g.heads g.links g.ends g.m a b 1 Missing in
+      let incoming = searched g.heads g.links g.ends g.m a b 1 (Ok None) in
       first_ways P found missing endless 0 (picks g 0 to a) (broken g 0 a) incoming (unbroken 0 a (omega arith) l) p
-      (first_ways P found missing endless 1 (picks g 1 to a) (broken g 1 a) Missing (unbroken 1 a (omega arith) l) p q)
+      (first_ways P found missing endless 1 (picks g 1 to a) (broken g 1 a) (Ok None) (unbroken 1 a (omega arith) l) p q)
 
   pub find_6 : (a b : ℕ) → Not6 (find_edge g a b)
   unfolding find_edge

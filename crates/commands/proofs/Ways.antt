@@ -18,13 +18,12 @@ use Rattle.lists.specs.declared.Item.TheVariants.{Weight}
 use Rattle.lists.specs.declared.Spot.TheVariants.{Head}
 use Rattle.lists.specs.Walk.{around, link_at, cell}
 use Rattle.lists.proofs.Gives.{walk-length}
-use Rattle.sound.specs.declared.Checked.{Checked}
-use Rattle.sound.specs.declared.Checked.TheVariants as Checked·
+use Rattle.std.specs.Prelude.{Result, Ok, Err}
 use Rattle.sound.specs.Sound.{Sound, lists}
-use Rattle.sound.specs.Check.{checked, accepted}
+use Rattle.sound.specs.Check.{Checked, checked, accepted}
 use Rattle.sound.proofs.Exactly.{accepted-sound}
 use Rattle.sound.proofs.Kept.{fit_of}
-use Rattle.closing.specs.declared.NodeRemoved.{NodeRemoved}
+use Rattle.closing.specs.declared.RemovedNode.{RemovedNode}
 use Rattle.closing.specs.Closing.{Closed, closed_if_room, remove_node, told_node_removed}
 use Rattle.closing.proofs.NodeOuts.{node-out}
 use Rattle.commands.specs.Parts.{FewRows}
@@ -54,9 +53,8 @@ module _ (g : Net) (a : ℕ) (items : List ℕ) where
   short_is f l c r = rw (f, l, c, r)
 
   accepted_so : (v : Checked) → checked g ≡ v → accepted v ≡ true → Sound g (lists g)
-  accepted_so (Checked·.Accepted rows) e h = (accepted-sound g rows e).1
-  accepted_so (Checked·.Fault d b) e h = absurd (let z : ◌≡◌ {A = ℕ} 0 1 = cc in omega arith)
-  accepted_so (Checked·.Refused why) e h = absurd (let z : ◌≡◌ {A = ℕ} 0 1 = cc in omega arith)
+  accepted_so (Ok rows) e h = (accepted-sound g rows e).1
+  accepted_so (Err why) e h = absurd (let z : ◌≡◌ {A = ℕ} 0 1 = cc in omega arith)
 
 module _ (P : Closed → Type 0) (g : Net) (a : ℕ) (items : List ℕ) (no : (why : Refusal) → P (out (refused why (pos 0, 0, 0)) (g, items)))
     (yes-so : fits g ≡ true → Sound g (lists g) → a < g.n → length (around g Weight a) ≤ length items → P (remove_node g a items)) where
@@ -87,5 +85,6 @@ few_rows g a items =
     let most = o.most 65536 (λ k c h d. omega (arith, walk-length (cell g.links k) g.m g.m (link_at g k (Head c)))) in
     rw o.served (omega (arith, o.edges, most)))
 
-pub few_so : (g : Net) (a : ℕ) (items : List ℕ) {answer : NodeRemoved} {after : Net × List ℕ} → out (told_node_removed answer) after ≡ remove_node g a items → FewRows answer
+pub few_so : (g : Net) (a : ℕ) (items : List ℕ) {answer : Result RemovedNode Refusal} {after : Net × List ℕ}
+    → out (told_node_removed answer) after ≡ remove_node g a items → FewRows answer
 few_so g a items e = record { few = subst (λ (o : Closed). o.answer.values.1 < 2 ^ 63) (sym e) (few_rows g a items) }

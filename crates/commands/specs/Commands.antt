@@ -1,5 +1,5 @@
 -- What each command does, by the call that it stands for, and what it replies. A letter is given by its byte.
-use Rattle.std.specs.Prelude.{ℕ, false, cond, List, eqb, ℤ, pos}
+use Rattle.std.specs.Prelude.{ℕ, Some, None, cond, List, eqb, ℤ, pos}
 use Rattle.index.specs.Index.{is_end}
 use Rattle.tables.specs.Net.{Net}
 use Rattle.tables.specs.Answers.{Told, Out}
@@ -12,6 +12,7 @@ use Rattle.sound.specs.Check.{checked, told_checked}
 use Rattle.removal.specs.Removal.{remove_edge}
 use Rattle.closing.specs.Closing.{remove_node}
 use Rattle.reply.specs.declared.Reply.{Reply}
+use Rattle.reply.specs.declared.Value.TheVariants.{Number, NoRow}
 use Rattle.reply.specs.Replies.{bare_reply}
 
 -- the reply of a served command, behind letter and 0: nothing more
@@ -20,7 +21,7 @@ nothing letter values = bare_reply letter 0
 
 -- one value
 abbrev pub one_value : ℕ → ℤ → Reply
-one_value letter z = record { letter = letter; number = 0; values = 1; first = z; second = pos 0; none = false; third = pos 0; items = 0 }
+one_value letter z = record { letter = letter; number = 0; first = Some (Number z); second = None; third = None; items = 0 }
 
 -- the number of a node or an edge
 abbrev pub one_number : ℕ → ℕ → Reply
@@ -28,17 +29,31 @@ one_number letter x = one_value letter (pos x)
 
 -- a count, and as many items of the output table
 abbrev pub counted : ℕ → ℕ → Reply
-counted letter count = record { letter = letter; number = 0; values = 1; first = pos count; second = pos 0; none = false; third = pos 0; items = count }
+counted letter count = record { letter = letter; number = 0; first = Some (Number (pos count)); second = None; third = None; items = count }
 
 -- an edge taken out: its weight, the old number of the row that moved or `-`, the rows read
 abbrev pub edge_gone : ℕ → ℕ × ℕ × ℕ → Reply
 edge_gone letter (w, moved, rows) =
-    record { letter = letter; number = 0; values = 3; first = pos w; second = pos moved; none = is_end moved; third = pos rows; items = 0 }
+    record {
+      letter = letter;
+      number = 0;
+      first = Some (Number (pos w));
+      second = Some (cond (is_end moved) NoRow (Number (pos moved)));
+      third = Some (Number (pos rows));
+      items = 0;
+    }
 
 -- a node taken out: its weight, the rows read, how many edges went with it, and their weights
 abbrev pub node_gone : ℕ → ℤ × ℕ × ℕ → Reply
 node_gone letter (w, rows, count) =
-    record { letter = letter; number = 0; values = 3; first = w; second = pos rows; none = false; third = pos count; items = count }
+    record {
+      letter = letter;
+      number = 0;
+      first = Some (Number w);
+      second = Some (Number (pos rows));
+      third = Some (Number (pos count));
+      items = count;
+    }
 
 -- the check: the rows read
 abbrev pub rows_read : ℕ → ℕ × ℕ × ℕ → Reply

@@ -5,7 +5,9 @@ use mathlib.Core.Logic.{◌⊎◌, inl, inr, ⊎_elim}
 use native.Mathlib.Decide.{ℕ_discrete}
 use native.Mathlib.Omega.{arith}
 use borrow.Author.Tests.{ne_eqb}
-use Rattle.letters.specs.Letters.{operands_of}
+use mathlib.Core.Bool.{Bool, true, false, cond}
+use mathlib.Core.List.{[], ◌∷◌}
+use Rattle.letters.specs.Letters.{operands_of, among}
 
 -- one of two neighbours
 pub pair : (x a : ℕ) → a ≤ x → x < a + 2 → (x ≡ a) ⊎ (x ≡ a + 1)
@@ -60,3 +62,16 @@ module _ (x : ℕ) where
         ne_eqb x 67 (λ k. h0 (inl k)),
         ne_eqb x 90 (λ k. h0 (inr (inr k))),
       )
+
+  -- never more than 4
+  pub few_counts : operands_of x ≤ 4
+  unfolding operands_of
+  few_counts =
+      at_most (among x (69 ∷ 85 ∷ [])) 3 _ (omega arith)
+      (at_most (among x (70 ∷ 66 ∷ [])) 2 _ (omega arith)
+      (at_most (among x (78 ∷ 88 ∷ 68 ∷ 87 ∷ 71 ∷ 77 ∷ 65 ∷ [])) 1 _ (omega arith)
+      (at_most (among x (83 ∷ 67 ∷ 90 ∷ [])) 0 4 (omega arith) (omega arith))))
+    where
+      at_most : (t : Bool) (a b : ℕ) → a ≤ 4 → b ≤ 4 → cond t a b ≤ 4
+      at_most true a b h l = h
+      at_most false a b h l = l

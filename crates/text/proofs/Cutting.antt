@@ -1,5 +1,5 @@
 -- Lines, one after the other.
-use Prim.Native.Nat.{ℕ, suc, ◌+◌, ◌≤◌, ◌<◌}
+use Prim.Native.Nat.{ℕ, suc, ◌+◌, ◌-◌, ◌≤◌, ◌<◌}
 use mathlib.Core.Path.{◌≡◌, refl, sym, ap, ap₂, subst, ◌∙◌}
 use mathlib.Core.List.{List, [], ◌∷◌}
 use native.Mathlib.Nat.{suc-add}
@@ -70,6 +70,12 @@ lines_next b (d ∷ ds) =
 -- the bytes from `at` up to `end`, taken behind those before `at`
 pub slice_taken : (script : List ℕ) (at n : ℕ) → at ≤ length script → slice at (at + n) script ≡ take n (drop at script)
 slice_taken script at n h = rw (take-add at n script) (drop_at (take at script) (take n (drop at script)) at (length-take-le at script h))
+
+-- a line lent, and as it is cut
+pub part_is : {script : List ℕ} {at end : ℕ} → EndsLine script at end → take (end - at) (drop at script) ≡ slice at end script
+part_is {script} {at} {end} e =
+    let n : at + (end - at) ≡ end = omega (arith, e.is) in
+    sym (slice_taken script at (end - at) (omega (arith, e.is, e.held))) ∙ ap (λ k. slice at k script) n
 
 -- a loop over a script that stands at `at`: one line, up to where it ends, then the lines behind its newline
 pub lines_at : {script : List ℕ} {at end : ℕ} → at < length script → EndsLine script at end
