@@ -1,6 +1,6 @@
 -- A loop over a known number of rows; and one that writes the items of a list to a table that has room for them, front to back.
 use Prim.Native.Nat.{ℕ, zero, suc, ◌+◌, ◌-◌, ◌≤◌, ◌<◌}
-use mathlib.Core.Path.{◌≡◌, refl, sym, ap, ◌∙◌}
+use mathlib.Core.Path.{◌≡◌, sym, ap, ◌∙◌}
 use mathlib.Core.Bool.{Bool, true, false, cond}
 use mathlib.Core.List.{List, [], ◌∷◌, ◌++◌, map, map-append, append-nil}
 use native.Mathlib.Nat.{lt_of_not-le}
@@ -9,6 +9,7 @@ use lib.Dec.{ltb}
 use lib.ListN.{length, get_or, set, length-append, length-map, length-set}
 use lib.Seq.{get_or_at, take_all}
 use Rattle.tables.specs.Answers.{out, done}
+use Rattle.std.proofs.lemmas.List.{nil_from_length}
 use Rattle.std.proofs.lemmas.List.Elements.{filter-append}
 use Rattle.tables.proofs.Front.{front, front_more}
 use Rattle.lists.specs.Walk.{walk, filter}
@@ -25,10 +26,6 @@ walk-length next m (suc left) e = go (ltb e m) (walk-length next m left (next e)
     go true h = omega (arith, h)
     go false h = omega arith
 
-no_more : (xs : List ℕ) → length xs ≡ 0 → xs ≡ []
-no_more [] h = refl
-no_more (x ∷ xs) h = absurd (omega (arith, h))
-
 -- while rows are left the loop stands at one
 module _ {next : ℕ → ℕ} {m first : ℕ} {met : List ℕ} {e rows : ℕ} (a : Along next m first met e rows)
     {total : ℕ} (w : length (walk next m m first) ≡ total) (left : rows < total) where
@@ -42,7 +39,7 @@ module _ {next : ℕ → ℕ} {m first : ℕ} {met : List ℕ} {e rows : ℕ} (a
 pub met_all : {next : ℕ → ℕ} {m first : ℕ} {met : List ℕ} {e rows : ℕ} → Along next m first met e rows → length (walk next m m first) ≡ rows → walk next m m first ≡ met
 met_all {next} {m} {first} {met} {e} {rows} a h =
     let r = walk next m (m - rows) e in
-    a.whole ∙ ap (λ l. met ++ l) (no_more r (omega (arith, ap length a.whole, length-append met r, a.many))) ∙ append-nil met
+    a.whole ∙ ap (λ l. met ++ l) (nil_from_length r (omega (arith, ap length a.whole, length-append met r, a.many))) ∙ append-nil met
 
 pub taken_counted : {next : ℕ → ℕ} {m first : ℕ} {met : List ℕ} {e rows taken : ℕ} (p : ℕ → Bool) → Along next m first met e rows → length (filter p met) ≡ taken
     → length (walk next m m first) ≡ rows → taken ≡ length (filter p (walk next m m first))

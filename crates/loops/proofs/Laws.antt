@@ -1,8 +1,9 @@
 -- One call more, and the items of a walk: what moves every loop on.
-use Rattle.std.proofs.Common.{◌≡◌, ℕ, ◌+◌, ◌<◌, ◌≤◌, Bool, true, false, cond, not, ◌&&◌, ltb, leb, List, [], ◌∷◌, ◌++◌}
-use Rattle.std.proofs.Common.{length, get_or, take, drop, sym, ap, ◌∙◌, subst, add-one, arith, length-append, take-suc}
+use Rattle.std.proofs.Common.{◌≡◌, ℕ, ◌+◌, ◌<◌, ◌≤◌, Bool, true, false, cond, not, ◌&&◌, ltb, leb, List, []}
+use Rattle.std.proofs.Common.{length, get_or, take, drop, sym, ap, ◌∙◌, subst, add-one, arith, length-append}
 use Rattle.std.proofs.Common.{◌*◌, zero, suc, slice_index, refl, Result, Ok, Err}
 use Rattle.std.proofs.Math.Nat.{mul-suc}
+use Rattle.std.proofs.lemmas.List.Sums.{sum_by_more}
 use Rattle.std.proofs.lemmas.List.{get_or-take, get_or-drop}
 use Rattle.std.specs.Simd.{first_chunks}
 use Rattle.tables.specs.Net.{Net, fits}
@@ -44,15 +45,8 @@ pub in64_twice : (sum x : ℕ) → in64 (sum + in64 x) ≡ in64 (sum + x)
 in64_twice sum x = omega arith
 
 -- one item more
-total_onto : (xs : List ℕ) (y : ℕ) → total (xs ++ (y ∷ [])) ≡ total xs + y
-total_onto [] y = omega arith
-total_onto (x ∷ xs) y = omega (arith, total_onto xs y)
-
-pub total-more : (xs : List ℕ) (i sum r : ℕ) → i < length xs → sum ≡ in64 (total (take i xs)) → r ≡ in64 (sum + get_or xs i 0) → r ≡ in64 (total (take (i + 1) xs))
-total-more xs i sum r l e w =
-    let q : total (take (i + 1) xs) ≡ total (take i xs) + get_or xs i 0 =
-    ap (λ (k : ℕ). total (take k xs)) (add-one i) ∙ ap total (take-suc xs i 0 l) ∙ total_onto (take i xs) (get_or xs i 0) in
-    rw q (omega (arith, e, w))
+pub total_more : (xs : List ℕ) (i s : ℕ) → i < length xs → s ≡ in64 (total (take i xs)) → in64 (s + get_or xs i 0) ≡ in64 (total (take (i + 1) xs))
+total_more xs i s l e = rw (sum_by_more (λ x. x) xs i 0 l) (omega (arith, e))
 
 -- a walk gives no more items than its table holds
 pub record Held (o : Out ℕ (List ℕ)) : Type 0 where

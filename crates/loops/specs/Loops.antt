@@ -1,6 +1,6 @@
 -- What the bench's loops come to: every call of a table, one after the other, and what they tell added up.
 use Prim.{Unit, tt}
-use Rattle.std.specs.Prelude.{ℕ, zero, suc, ◌+◌, ◌*◌, ◌/◌, ◌%◌, ◌^◌, List, [], ◌∷◌, length, take, ℤ, pos, slice_index, slice_index_or}
+use Rattle.std.specs.Prelude.{ℕ, zero, suc, ◌+◌, ◌*◌, ◌/◌, ◌%◌, ◌^◌, List, length, sum, take, ℤ, pos, slice_index, slice_index_or}
 use Rattle.tables.specs.Net.{Net}
 use Rattle.tables.specs.Answers.{Told, Out, out}
 use Rattle.rows.specs.Calls.{add_node, add_edge}
@@ -55,8 +55,7 @@ find_edges g pairs = (calls (finds_edge g pairs) tt (length pairs / 2)).sum
 
 -- of a walk's answer the items given count, added up
 abbrev pub total : List ℕ → ℕ
-total [] = 0
-total (x ∷ xs) = x + total xs
+total = sum
 
 abbrev pub totalled : Told ℕ → List ℕ → Told ℕ
 totalled t items = record { number = t.number; values = total (take t.values items) }

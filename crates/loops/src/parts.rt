@@ -59,6 +59,7 @@ pub fn items_add(answer: Result<u32, Refusal>, items: &[u32]) -> u64
     }
 }
 
+#[tactic(auto, using(crate::proofs::Laws::total_more))]
 pub fn total(items: &[u32]) -> u64
     ensures { result ≡ in64 (total items.now) }
 {
