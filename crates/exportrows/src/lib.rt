@@ -9,15 +9,14 @@ ghost use Rattle.lookups.specs.Lookups.{node_weight, edge_weight, edge_endpoints
 ghost use Rattle.rows.specs.Calls.{add_node, add_edge, all_edge_weights, clear, clear_edges};
 ghost use Rattle.cells.specs.Told.{told};
 
-use cells::parts::{
-    tell_change, tell_edge, tell_edge_weight, tell_ends, tell_items, tell_node, tell_node_weight,
-};
+use cells::parts::{tell, tell_change, tell_ends};
 use index::{EdgeDirection, EdgeIndex, NodeIndex};
 use lookups::{
     edge_endpoints, edge_weight, first_edge, next_edge, node_weight, set_edge_weight,
     set_node_weight,
 };
 use rows::{add_edge, add_node, all_edge_weights, clear, clear_edges};
+use tables::Network;
 
 // The total of node a.
 pub fn net_node_weight(
@@ -33,8 +32,16 @@ pub fn net_node_weight(
 ) -> u32
     ensures { told result weight.new ≡ node_weight (entering weights.now heads.now registers.now links.now ends.now n m) a }
 {
-    let answer = node_weight(weights, heads, registers, links, ends, n, m, NodeIndex(a));
-    tell_node_weight(answer, weight)
+    let net = Network {
+        weights,
+        heads,
+        registers,
+        links,
+        ends,
+        n,
+        m,
+    };
+    tell(node_weight(net, NodeIndex(a)), weight)
 }
 
 // The register number of edge e.
@@ -51,8 +58,16 @@ pub fn net_edge_weight(
 ) -> u32
     ensures { told result weight.new ≡ edge_weight (entering weights.now heads.now registers.now links.now ends.now n m) e }
 {
-    let answer = edge_weight(weights, heads, registers, links, ends, n, m, EdgeIndex(e));
-    tell_edge_weight(answer, weight)
+    let net = Network {
+        weights,
+        heads,
+        registers,
+        links,
+        ends,
+        n,
+        m,
+    };
+    tell(edge_weight(net, EdgeIndex(e)), weight)
 }
 
 // Source and target of edge e.
@@ -70,8 +85,16 @@ pub fn net_edge_endpoints(
 ) -> u32
     ensures { told result (source.new, target.new) ≡ edge_endpoints (entering weights.now heads.now registers.now links.now ends.now n m) e }
 {
-    let answer = edge_endpoints(weights, heads, registers, links, ends, n, m, EdgeIndex(e));
-    tell_ends(answer, source, target)
+    let net = Network {
+        weights,
+        heads,
+        registers,
+        links,
+        ends,
+        n,
+        m,
+    };
+    tell_ends(edge_endpoints(net, EdgeIndex(e)), source, target)
 }
 
 // The first edge of node a in a direction: 0 is outgoing, any other number incoming.
@@ -89,7 +112,7 @@ pub fn net_first_edge(
 ) -> u32
     ensures { told result edge.new ≡ first_edge (entering weights.now heads.now registers.now links.now ends.now n m) a (direction_of direction) }
 {
-    let answer = first_edge(
+    let net = Network {
         weights,
         heads,
         registers,
@@ -97,10 +120,9 @@ pub fn net_first_edge(
         ends,
         n,
         m,
-        NodeIndex(a),
-        EdgeDirection::of(direction as usize),
-    );
-    tell_edge(answer, edge)
+    };
+    let direction = EdgeDirection::from(direction as usize);
+    tell(first_edge(net, NodeIndex(a), direction), edge)
 }
 
 // The edge after edge e in a direction.
@@ -118,7 +140,7 @@ pub fn net_next_edge(
 ) -> u32
     ensures { told result edge.new ≡ next_edge (entering weights.now heads.now registers.now links.now ends.now n m) e (direction_of direction) }
 {
-    let answer = next_edge(
+    let net = Network {
         weights,
         heads,
         registers,
@@ -126,10 +148,9 @@ pub fn net_next_edge(
         ends,
         n,
         m,
-        EdgeIndex(e),
-        EdgeDirection::of(direction as usize),
-    );
-    tell_edge(answer, edge)
+    };
+    let direction = EdgeDirection::from(direction as usize);
+    tell(next_edge(net, EdgeIndex(e), direction), edge)
 }
 
 // Sets the total of node a.
@@ -206,7 +227,7 @@ pub fn net_add_node(
         ≡ add_node (entering weights.old heads.old registers.now links.now ends.now n.old m) w }
 {
     let answer = add_node(weights, heads, registers, links, ends, n, m, w);
-    tell_node(answer, node)
+    tell(answer, node)
 }
 
 // One more edge; its number.
@@ -238,7 +259,7 @@ pub fn net_add_edge(
         NodeIndex(b),
         w,
     );
-    tell_edge(answer, edge)
+    tell(answer, edge)
 }
 
 // The register numbers of all edges, in row order; how many.
@@ -256,8 +277,16 @@ pub fn net_all_edge_weights(
     ensures { out (told result count.new) items.new
         ≡ all_edge_weights (entering weights.now heads.now registers.now links.now ends.now n m) items.old }
 {
-    let answer = all_edge_weights(weights, heads, registers, links, ends, n, m, items);
-    tell_items(answer, count)
+    let net = Network {
+        weights,
+        heads,
+        registers,
+        links,
+        ends,
+        n,
+        m,
+    };
+    tell(all_edge_weights(net, items), count)
 }
 
 // No edges left.
