@@ -15,10 +15,9 @@ use Rattle.tables.specs.Net.{Net, fits}
 use Rattle.tables.proofs.Laws.{tested}
 use Rattle.lists.specs.declared.Item.TheVariants.{Weight}
 use Rattle.lists.specs.Walk.{around}
-use Rattle.sound.specs.declared.Checked.{Checked}
-use Rattle.sound.specs.declared.Checked.TheVariants as Checked·
+use Rattle.std.specs.Prelude.{Ok, Err}
 use Rattle.sound.specs.Sound.{Sound, lists}
-use Rattle.sound.specs.Check.{accepted, is_sound}
+use Rattle.sound.specs.Check.{Checked, accepted, is_sound}
 use Rattle.sound.proofs.Exactly.{small}
 use Rattle.stripping.specs.Heads.{stripped}
 use Rattle.dropping.specs.Drop.{dropped}
@@ -44,10 +43,9 @@ node-length f a I =
 pub sound_so : (f : Filed) → is_sound_filed f ≡ true → SoundFiled f
 sound_so f c = let r = accepts (checked_filed f) c in (accepted-right f r.0 r.1).0
   where
-    accepts : (r : Checked) → accepted r ≡ true → (rows : ℕ) × (r ≡ Checked·.Accepted rows)
-    accepts (Checked·.Accepted rows) h = (rows, refl)
-    accepts (Checked·.Fault d a) h = absurd (let z : ◌≡◌ {A = ℕ} 0 1 = cc in omega arith)
-    accepts (Checked·.Refused why) h = absurd (let z : ◌≡◌ {A = ℕ} 0 1 = cc in omega arith)
+    accepts : (r : Checked) → accepted r ≡ true → (rows : ℕ) × (r ≡ Ok rows)
+    accepts (Ok rows) h = (rows, refl)
+    accepts (Err fault) h = cc
 
 -- a refusal changes nothing: a right directory is that of its rows
 pub node_unchanged : (f : Filed) (a : ℕ) (I : List ℕ) → ((remove_node_filed f a I).answer.number ≡ 0 → ⊥) → (remove_node_filed f a I).after ≡ (f, I)

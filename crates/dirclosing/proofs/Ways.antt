@@ -1,4 +1,4 @@
--- The ways in which a node's removal with a directory ends: what the check decides, `all_accepted`, `not_accepted`; past it the two lists' edges,
+-- The ways in which a node's removal with a directory ends: what the check decides, `all_accepted`; past it the two lists' edges,
 -- `short_so`, `room_so`; and what is left, by the number told, `refused_so`, `ready_so`, `taken_so`.
 use Prim.Native.Nat.{ℕ, ◌≤◌, ◌<◌}
 use mathlib.Core.Path.{◌≡◌, refl, sym, ap, ◌∙◌}
@@ -9,6 +9,9 @@ use borrow.Author.Tests.{lt-ltb, ltb-true, leb-true}
 use lib.Dec.{ltb, leb}
 use lib.IntN.{pos}
 use lib.ListN.{length}
+use Prim.{Unit, tt}
+use Rattle.std.specs.Prelude.{Result, Ok, Err}
+use Rattle.std.specs.Result.{is_err}
 use Rattle.index.specs.declared.Refusal.{Refusal}
 use Rattle.index.specs.declared.Refusal.TheVariants.{Tables, NoNode, Broken, Short}
 use Rattle.index.specs.Refusals.{refusal_no}
@@ -18,37 +21,26 @@ use Rattle.tables.specs.Answers.{out, refused}
 use Rattle.tables.proofs.Laws.{tested}
 use Rattle.lists.specs.declared.Item.TheVariants.{Weight}
 use Rattle.lists.specs.Walk.{around}
-use Rattle.sound.specs.declared.Checked.{Checked}
-use Rattle.sound.specs.declared.Checked.TheVariants as Checked·
 use Rattle.sound.specs.Sound.{lists}
-use Rattle.sound.specs.Check.{accepted, is_sound}
+use Rattle.sound.specs.Check.{Checked, accepted, is_sound}
 use Rattle.sound.proofs.Exactly.{small, sound_accepted}
 use Rattle.stripping.specs.Heads.{stripped}
-use Rattle.closing.specs.declared.NodeRemoved.{NodeRemoved}
+use Rattle.closing.specs.declared.RemovedNode.{RemovedNode}
 use Rattle.closing.specs.Closing.{Closed, told_node_removed, closed, closed_if_room, remove_node}
 use Rattle.closing.specs.Parts.{Closable}
 use Rattle.closing.proofs.Closes.{enough, too_short, long_enough}
 use Rattle.directory.specs.Directory.{Filed, filed, register_of, directory_of}
 use Rattle.directory.proofs.Laws.{right_is}
 use Rattle.dirsound.specs.Check.{checked_filed, is_sound_filed}
-use Rattle.dirrows.specs.declared.parts.Claim.{Claim}
-use Rattle.dirrows.specs.declared.parts.Claim.TheVariants as Claim·
 use Rattle.dirrows.specs.Parts.{claim_no}
 use Rattle.dirclosing.specs.Closing.{ClosedFiled, refiled, remove_node_filed}
 use Rattle.dirclosing.specs.Parts.{ReadyFiled, ClosesFiled}
 use Rattle.dirclosing.proofs.Kept.{sound_so}
 
 -- what the check's answer says of the test for 6
-pub all_accepted : (f : Filed) (v : Checked) (rows : ℕ) → v ≡ checked_filed f → v ≡ Checked·.Accepted rows → is_sound_filed f ≡ true
-all_accepted f v rows p q = ap accepted (sym p ∙ q)
-
-pub not_accepted : (f : Filed) (v : Checked) → v ≡ checked_filed f → ((rows : ℕ) → v ≡ Checked·.Accepted rows → ⊥) → is_sound_filed f ≡ false
-not_accepted f v p n = ap accepted (sym p) ∙ go v n
-  where
-    go : (v : Checked) → ((rows : ℕ) → v ≡ Checked·.Accepted rows → ⊥) → accepted v ≡ false
-    go (Checked·.Accepted rows) k = absurd (k rows refl)
-    go (Checked·.Fault d a) k = refl
-    go (Checked·.Refused why) k = refl
+pub all_accepted : (f : Filed) (v : Checked) → v ≡ checked_filed f → is_err v ≡ false → is_sound_filed f ≡ true
+all_accepted f (Ok rows) p q = ap accepted (sym p)
+all_accepted f (Err fault) p q = cc
 
 -- an accepted network is sound
 pub closable_so : (f : Filed) (a : ℕ) → is_sound_filed f ≡ true → a < f.net.n → Closable f.net a
@@ -107,8 +99,8 @@ module _ (f : Filed) (a : ℕ) (I : List ℕ) where
       inr (record { ready = record { closable = C; room = enough g a C around_a (length I) refl (leb-true around_a (length I) r) }; right = R }, refl))))))))
 
   -- by what `removable` told
-  module _ (c : Claim) (told : claim_no c ≡ asked.answer.number) where
-    pub refused_so : (why : Refusal) → c ≡ Claim·.Refused why → out (refused why (pos 0, 0, 0)) (f, I) ≡ asked
+  module _ (c : Result Unit Refusal) (told : claim_no c ≡ asked.answer.number) where
+    pub refused_so : (why : Refusal) → c ≡ Err why → out (refused why (pos 0, 0, 0)) (f, I) ≡ asked
     refused_so why q =
         let z : refusal_no why ≡ asked.answer.number = sym (ap claim_no q) ∙ told in
         ⊎_elim
@@ -116,7 +108,7 @@ module _ (f : Filed) (a : ℕ) (I : List ℕ) where
         (λ x. absurd (not_zero why (z ∙ sym (by_number _ x.1))))
         ends
 
-    module _ (free : c ≡ Claim·.Free) where
+    module _ (free : c ≡ Ok tt) where
       served : ReadyFiled f a (length I) × (refiled cells (closed f.net a I (stripped f.net a)) ≡ asked)
       served =
           let z : 0 ≡ asked.answer.number = sym (ap claim_no free) ∙ told in
@@ -125,10 +117,10 @@ module _ (f : Filed) (a : ℕ) (I : List ℕ) where
       pub ready_so : ReadyFiled f a (length I)
       ready_so = served.0
 
-      pub taken_so : (r : NodeRemoved) (h : Net) (J d : List ℕ) → ClosesFiled cells r h J d (closed f.net a I (stripped f.net a))
+      pub taken_so : (r : Result RemovedNode Refusal) (h : Net) (J d : List ℕ) → ClosesFiled cells r h J d (closed f.net a I (stripped f.net a))
           → out (told_node_removed r) (filed h d, J) ≡ asked
       taken_so r h J d K = refiled_so r h J d _ K.closes K.directory_is ∙ served.1
         where
-          refiled_so : (r : NodeRemoved) (h : Net) (J d : List ℕ) (o : Closed) → out (told_node_removed r) (h, J) ≡ o
+          refiled_so : (r : Result RemovedNode Refusal) (h : Net) (J d : List ℕ) (o : Closed) → out (told_node_removed r) (h, J) ≡ o
               → d ≡ directory_of cells (register_of h) h.m → out (told_node_removed r) (filed h d, J) ≡ refiled cells o
           refiled_so r h J d o p q = rw (← p, q)

@@ -8,10 +8,10 @@ ghost use Rattle.closing.specs.Closing.{told_node_removed};
 ghost use Rattle.directory.specs.Directory.{filed};
 ghost use Rattle.dirclosing.specs.Closing.{remove_node_filed};
 
-use closing::NodeRemoved;
-use dirrows::parts::Claim;
-use index::NodeIndex;
+use closing::RemovedNode;
+use index::{NodeIndex, Refusal};
 use parts::{removable, take_node};
+use tables::Network;
 
 pub mod parts;
 
@@ -27,16 +27,21 @@ pub fn remove_node(
     directory: &mut [u32],
     a: NodeIndex,
     items: &mut [u32],
-) -> NodeRemoved
+) -> Result<RemovedNode, Refusal>
     ensures { out (told_node_removed result) (filed (leaving weights.new heads.new registers.new links.new ends.new n.new m.new) directory.new, items.new)
         ≡ remove_node_filed (filed (entering weights.old heads.old registers.old links.old ends.old n.old m.old) directory.old) a.0 items.old }
 {
-    match removable(
-        weights, heads, registers, links, ends, *n, *m, directory, a, items,
-    ) {
-        Claim::Refused(why) => NodeRemoved::Refused(why),
-        Claim::Free => take_node(
-            weights, heads, registers, links, ends, n, m, directory, a, items,
-        ),
-    }
+    let net = Network {
+        weights,
+        heads,
+        registers,
+        links,
+        ends,
+        n: *n,
+        m: *m,
+    };
+    removable(net, directory, a, items)?;
+    Ok(take_node(
+        weights, heads, registers, links, ends, n, m, directory, a, items,
+    ))
 }

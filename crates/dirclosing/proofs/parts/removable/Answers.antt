@@ -1,57 +1,31 @@
--- `guards` finds each test's fact; past the check the two lists are settled, and their edges counted.
-use Rattle.std.proofs.Common.{pos, arith}
-use Rattle.index.specs.declared.Refusal.TheVariants.{Tables, NoNode, Broken}
-use Rattle.tables.specs.Net.{net}
-use Rattle.tables.specs.Answers.{out, refused}
-use Rattle.tables.proofs.Guards.{guards}
+-- Past the check the two lists are settled, and their edges counted.
+use Rattle.std.proofs.Common.{◌≡◌, sym, ◌∙◌, Some, None, arith}
+use Rattle.tables.specs.Net.{net_of}
 use Rattle.closing.proofs.Closes.{fit_of_lem, both-settled, not_broken, count_is}
 use Rattle.directory.specs.Directory.{filed}
-use Rattle.dirclosing.specs.Closing.{remove_node_filed}
-use Rattle.dirclosing.proofs.Ways.{all_accepted, not_accepted, closable_so, by_number, short_so, room_so}
+use Rattle.dirclosing.proofs.Ways.{all_accepted, closable_so, short_so, room_so}
 use Rattle.dirclosing.proofs.parts.removable.Goals as goal
-
-pub returns-then-not-fits : goal.returns-then-not-fits
-unfolding remove_node_filed
-returns-then-not-fits c =
-    let a = c.args in
-    let f = filed (net a.weights.now a.heads.now a.registers.now a.links.now a.ends.now a.n a.m) a.directory.now in
-    by_number f _ _ (out (refused Tables (pos 0, 0, 0)) (f, a.items.now)) (search guards depth 9)
-
-pub returns-then-n-a : goal.returns-then-n-a
-unfolding remove_node_filed
-returns-then-n-a c =
-    let a = c.args in
-    let f = filed (net a.weights.now a.heads.now a.registers.now a.links.now a.ends.now a.n a.m) a.directory.now in
-    by_number f _ _ (out (refused NoNode (pos 0, 0, 0)) (f, a.items.now)) (search guards depth 9)
-
-pub returns-in_default : goal.returns-in_default
-unfolding remove_node_filed
-returns-in_default c =
-    let a = c.args in
-    let f = filed (net a.weights.now a.heads.now a.registers.now a.links.now a.ends.now a.n a.m) a.directory.now in
-    let unsound = not_accepted f c.check.result c.check.ensures c.in_default.not-Accepted in
-    by_number f _ _ (out (refused Broken (pos 0, 0, 0)) (f, a.items.now)) (search guards depth 9)
 
 pub along-first-requires : goal.along-first-requires
 along-first-requires c =
     let a = c.args in
-    let f = filed (net a.weights.now a.heads.now a.registers.now a.links.now a.ends.now a.n a.m) a.directory.now in
-    let s = all_accepted f c.check.result _ c.check.ensures c.in-Accepted.is in
-    omega (arith, fit_of_lem (closable_so f a.a.0 s c.if-n-a.false), c.if-n-a.false)
+    let f = filed (net_of a.net) a.directory.now in
+    let s = all_accepted f c.check.result c.check.ensures (sym c.is_err.ensures.value ∙ c.if-is_err.false) in
+    omega (arith, fit_of_lem (closable_so f a.a.0 s c.if-net-a.false), c.if-net-a.false)
 
 pub along-second-requires : goal.along-second-requires
 along-second-requires c =
     let a = c.args in
-    let f = filed (net a.weights.now a.heads.now a.registers.now a.links.now a.ends.now a.n a.m) a.directory.now in
-    let s = all_accepted f c.check.result _ c.check.ensures c.in-Accepted.is in
-    omega (arith, fit_of_lem (closable_so f a.a.0 s c.if-n-a.false), c.if-n-a.false)
+    let f = filed (net_of a.net) a.directory.now in
+    let s = all_accepted f c.check.result c.check.ensures (sym c.is_err.ensures.value ∙ c.if-is_err.false) in
+    omega (arith, fit_of_lem (closable_so f a.a.0 s c.if-net-a.false), c.if-net-a.false)
 
 pub settle-requires : goal.settle-requires
 settle-requires c =
     let a = c.args in
-    let f = filed (net a.weights.now a.heads.now a.registers.now a.links.now a.ends.now a.n a.m) a.directory.now in
-    let s = all_accepted f c.check.result _ c.check.ensures c.in-Accepted.is in
-    let t = fit_of_lem (closable_so f a.a.0 s c.if-n-a.false) in
+    let f = filed (net_of a.net) a.directory.now in
+    let s = all_accepted f c.check.result c.check.ensures (sym c.is_err.ensures.value ∙ c.if-is_err.false) in
+    let t = fit_of_lem (closable_so f a.a.0 s c.if-net-a.false) in
     record {
       few = omega (arith, t.edges_most, t.m_within);
       registers_hold = omega arith;
@@ -61,26 +35,29 @@ settle-requires c =
       second_way = rw c.along-second.ensures (omega arith);
     }
 
-pub returns-in_default-settle : goal.returns-in_default-settle
-returns-in_default-settle c =
+pub returns-in_err-both : goal.returns-in_err-both
+returns-in_err-both c =
     let a = c.args in
-    let f = filed (net a.weights.now a.heads.now a.registers.now a.links.now a.ends.now a.n a.m) a.directory.now in
-    let s = all_accepted f c.check.result _ c.check.ensures c.in-Accepted.is in
+    let f = filed (net_of a.net) a.directory.now in
+    let s = all_accepted f c.check.result c.check.ensures (sym c.is_err.ensures.value ∙ c.if-is_err.false) in
     let b = both-settled f.net a.a.0 c.along-first.ensures c.along-second.ensures c.settle.ensures in
-    absurd (not_broken _ _ (closable_so f a.a.0 s c.if-n-a.false) _ b c.in_default-settle.is)
+    let lost : c.settle.result ≡ None = grind arith in
+    absurd (not_broken _ _ (closable_so f a.a.0 s c.if-net-a.false) _ b lost)
 
-pub returns-then-items-count : goal.returns-then-items-count
-returns-then-items-count c =
+pub returns-then-items-both : goal.returns-then-items-both
+returns-then-items-both c =
     let a = c.args in
-    let f = filed (net a.weights.now a.heads.now a.registers.now a.links.now a.ends.now a.n a.m) a.directory.now in
-    let s = all_accepted f c.check.result _ c.check.ensures c.in-Accepted.is in
+    let f = filed (net_of a.net) a.directory.now in
+    let s = all_accepted f c.check.result c.check.ensures (sym c.is_err.ensures.value ∙ c.if-is_err.false) in
     let b = both-settled f.net a.a.0 c.along-first.ensures c.along-second.ensures c.settle.ensures in
-    short_so f _ _ s c.if-n-a.false _ (count_is _ _ (closable_so f a.a.0 s c.if-n-a.false) _ _ _ _ _ b c.in-Rows.is) c.if-items-count.true
+    let found : c.settle.result ≡ Some c.in_ok-both.both = grind arith in
+    short_so f _ _ s c.if-net-a.false _ (count_is _ _ (closable_so f a.a.0 s c.if-net-a.false) _ _ b found) c.if-items-both.true
 
 pub returns : goal.returns
 returns c =
     let a = c.args in
-    let f = filed (net a.weights.now a.heads.now a.registers.now a.links.now a.ends.now a.n a.m) a.directory.now in
-    let s = all_accepted f c.check.result _ c.check.ensures c.in-Accepted.is in
+    let f = filed (net_of a.net) a.directory.now in
+    let s = all_accepted f c.check.result c.check.ensures (sym c.is_err.ensures.value ∙ c.if-is_err.false) in
     let b = both-settled f.net a.a.0 c.along-first.ensures c.along-second.ensures c.settle.ensures in
-    room_so f _ _ s c.if-n-a.false _ (count_is _ _ (closable_so f a.a.0 s c.if-n-a.false) _ _ _ _ _ b c.in-Rows.is) c.if-items-count.false
+    let found : c.settle.result ≡ Some c.in_ok-both.both = grind arith in
+    room_so f _ _ s c.if-net-a.false _ (count_is _ _ (closable_so f a.a.0 s c.if-net-a.false) _ _ b found) c.if-items-both.false

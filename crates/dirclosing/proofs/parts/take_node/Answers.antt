@@ -38,7 +38,8 @@ returns c =
     let g = net W a.heads.now a.registers.now a.links.now a.ends.now a.n.now a.m.now in
     record {
       closes =
-          node-taken g a.a.0 a.items.now _ _ _ _ _ s.given _ _ _ _ _ _ _ _ _ _ c.index.ensures weight (s.rest W) s.count_is s.items_are
-          e.moved.weights_are e.moved.heads_are e.ends_are e.nodes e.rows_are;
+          rw c.from.ensures
+          (node-taken g a.a.0 a.items.now _ _ _ _ _ s.given _ _ _ _ _ _ _ _ _ _ c.index.ensures weight (s.rest W) s.count_is s.items_are
+          e.moved.weights_are e.moved.heads_are e.ends_are e.nodes e.rows_are);
       directory_is = c.strip-gone.ensures.directory_is;
     }
