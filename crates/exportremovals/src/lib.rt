@@ -9,11 +9,12 @@ ghost use Rattle.closing.specs.Closing.{remove_node};
 ghost use Rattle.image.specs.Calls.{image_write, image_read};
 ghost use Rattle.cells.specs.Told.{told};
 
-use cells::parts::{tell_change, tell_edge_removed, tell_items, tell_node_removed};
+use cells::parts::{tell, tell_change, tell_edge_removed, tell_node_removed};
 use closing::remove_node;
 use image::{image_read, image_write};
 use index::{EdgeIndex, NodeIndex};
 use removal::remove_edge;
+use tables::Network;
 
 // Takes out edge e: its weight, the old number of the row that moved into its place (`END` where none did), the rows read.
 pub fn net_remove_edge(
@@ -83,8 +84,17 @@ pub fn net_image_write(
     ensures { out (told result length.new) bytes.new
         ≡ image_write (entering weights.now heads.now registers.now links.now ends.now n m) bytes.old }
 {
-    let answer = image_write(weights, heads, registers, links, ends, n, m, bytes);
-    tell_items(answer, length)
+    let net = Network {
+        weights,
+        heads,
+        registers,
+        links,
+        ends,
+        n,
+        m,
+    };
+    let answer = image_write(net, bytes);
+    tell(answer, length)
 }
 
 // The network that an image has, in place of the one lent.
