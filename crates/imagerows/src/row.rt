@@ -58,6 +58,7 @@ impl TableRow for Node {
         }
     }
 
+    #[tactic(auto, unfolding(tables::specs::Rows::with_node))]
     fn store(
         self,
         weights: &mut [i32],
@@ -90,6 +91,7 @@ impl TableRow for Edge {
         }
     }
 
+    #[tactic(auto, unfolding(tables::specs::Rows::with_edge))]
     fn store(
         self,
         _weights: &mut [i32],

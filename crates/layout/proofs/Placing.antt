@@ -163,6 +163,8 @@ head-placed n m l h e₁ e₂ e₃ e₄ =
     let three = placed-after 0 5 (mark ++ v) (le 4 n) l refl (omega arith) two e₃ in
     placed-after 0 9 (mark ++ v ++ le 4 n) (le 4 m) l refl (omega arith) three e₄
 
+pub ruleset placements = (node-placed, edge-placed, head-placed)
+
 pub placed-none : (at : ℕ) (l : List ℕ) → placed at [] l ≡ l
 unfolding placed
 placed-none at l = ap (λ k. take at l ++ drop k l) (add-zero at) ∙ take-append-drop at l

@@ -32,6 +32,7 @@ pub fn image_length(n: u32, m: u32) -> usize
 }
 
 // A weight as 32 bits: a negative one is 2^32 more.
+#[tactic(auto, using(crate::proofs::Complement::cast_bits))]
 pub fn bits(w: i32) -> u32
     ensures { result ≡ bits w }
 {
@@ -39,6 +40,7 @@ pub fn bits(w: i32) -> u32
 }
 
 // The weight that 32 bits have.
+#[tactic(auto, using(crate::proofs::Complement::cast_is_signed))]
 pub fn signed(x: u32) -> i32
     ensures { result ≡ signed x }
 {

@@ -10,6 +10,7 @@ use tables::{Edge, Node};
 
 const IMAGE_MARK: [u8; 3] = *b"WNT";
 
+#[tactic(auto, using(crate::proofs::Placing::part_placed))]
 fn put_bytes(bytes: &mut [u8], at: usize, xs: &[u8])
     requires { at + length xs.now ≤ length bytes.old }
     ensures { bytes.new ≡ placed at xs.now bytes.old }
@@ -18,6 +19,7 @@ fn put_bytes(bytes: &mut [u8], at: usize, xs: &[u8])
 }
 
 // A number in K bytes, the lowest first.
+#[tactic(auto, using(crate::proofs::Placing::low_bytes))]
 pub fn put_number<const K: usize>(bytes: &mut [u8], at: usize, x: u32)
     requires wide { K ≤ 4 }
     requires room { at + K ≤ length bytes.old }
@@ -27,6 +29,7 @@ pub fn put_number<const K: usize>(bytes: &mut [u8], at: usize, x: u32)
 }
 
 // The number that K bytes have.
+#[tactic(auto, using(crate::proofs::Placing::part_number))]
 pub fn number_at<const K: usize>(bytes: &[u8], at: usize) -> u32
     requires wide { K ≤ 4 }
     requires room { at + K ≤ length bytes.now }
@@ -38,6 +41,7 @@ pub fn number_at<const K: usize>(bytes: &[u8], at: usize) -> u32
 }
 
 // Mark, version, n and m.
+#[tactic(auto, using(crate::proofs::Placing::placements))]
 pub fn put_head(bytes: &mut [u8], n: u32, m: u32)
     requires { head_bytes ≤ length bytes.old }
     ensures { bytes.new ≡ placed 0 (head n m) bytes.old }
@@ -48,6 +52,7 @@ pub fn put_head(bytes: &mut [u8], n: u32, m: u32)
     put_number::<4>(bytes, EDGES_AT, m);
 }
 
+#[tactic(auto, using(crate::proofs::Placing::starts_marked))]
 pub fn marked(bytes: &[u8]) -> bool
     requires { 3 ≤ length bytes.now }
     ensures { result ≡ marked bytes.now }
@@ -94,6 +99,7 @@ impl Row for Node {
         put_number::<4>(bytes, at + 8, self.incoming.0);
     }
 
+    #[tactic(auto, unfolding(crate::specs::Layout::node_at))]
     fn at(bytes: &[u8], at: usize) -> Node {
         Node {
             weight: signed(number_at::<4>(bytes, at)),
@@ -114,6 +120,7 @@ impl Row for Edge {
 
     const BYTES: usize = EDGE_BYTES;
 
+    #[tactic(auto, using(crate::proofs::Placing::placements))]
     fn put(self, bytes: &mut [u8], at: usize) {
         put_number::<4>(bytes, at, self.weight);
         put_number::<4>(bytes, at + 4, self.outgoing.0);
@@ -122,6 +129,7 @@ impl Row for Edge {
         put_number::<4>(bytes, at + 16, self.target.0);
     }
 
+    #[tactic(auto, unfolding(crate::specs::Layout::edge_at))]
     fn at(bytes: &[u8], at: usize) -> Edge {
         Edge {
             weight: number_at::<4>(bytes, at),
