@@ -10,10 +10,11 @@ ghost use Rattle.dirloops.specs.Loops.{add_edges_filed, find_numbers, remove_num
 use bynumber::{find_number, remove_number};
 use dirrows::add_edge;
 use index::NodeIndex;
-use loops::parts::{edge_adds, removal_adds};
-use std::num::wrapping_add_u64;
+use loops::parts::adds;
+use tables::Network;
 
 // An edge for each row of three cells: source, target, register number.
+#[tactic(auto, unfolding(loops::specs::Loops::calls))]
 pub fn loop_dir_add_edges(
     weights: &[i32],
     heads: &mut [u32],
@@ -29,22 +30,19 @@ pub fn loop_dir_add_edges(
         ≡ add_edges_filed (filed (entering weights.now heads.old registers.old links.old ends.old n m.old) directory.old) edges.now }
 {
     let mut sum: u64 = 0;
-    let mut i: usize = 0;
-    let count = edges.len() / 3;
-    while i < count {
-        let a = NodeIndex(edges[3 * i]);
-        let b = NodeIndex(edges[3 * i + 1]);
-        let w = edges[3 * i + 2];
+    let (rows, _) = edges.as_chunks::<3>();
+    for &[a, b, w] in rows {
+        let (a, b) = (NodeIndex(a), NodeIndex(b));
         let answer = add_edge(
             weights, heads, registers, links, ends, n, m, directory, a, b, w,
         );
-        sum = wrapping_add_u64(sum, edge_adds(answer));
-        i += 1;
+        sum = sum.wrapping_add(adds(answer));
     }
     sum
 }
 
 // The edge that bears each number.
+#[tactic(auto, unfolding(loops::specs::Loops::calls))]
 pub fn loop_find_numbers(
     weights: &[i32],
     heads: &[u32],
@@ -58,18 +56,25 @@ pub fn loop_find_numbers(
 ) -> u64
     ensures { result ≡ find_numbers (filed (entering weights.now heads.now registers.now links.now ends.now n m) directory.now) numbers.now }
 {
+    let net = Network {
+        weights,
+        heads,
+        registers,
+        links,
+        ends,
+        n,
+        m,
+    };
     let mut sum: u64 = 0;
-    let mut i: usize = 0;
-    while i < numbers.len() {
-        let r = numbers[i];
-        let answer = find_number(weights, heads, registers, links, ends, n, m, directory, r);
-        sum = wrapping_add_u64(sum, edge_adds(answer));
-        i += 1;
+    for &r in numbers {
+        let answer = find_number(net, directory, r);
+        sum = sum.wrapping_add(adds(answer));
     }
     sum
 }
 
 // Takes out the edge that bears each number.
+#[tactic(auto, unfolding(loops::specs::Loops::calls))]
 pub fn loop_remove_numbers(
     weights: &[i32],
     heads: &mut [u32],
@@ -85,12 +90,9 @@ pub fn loop_remove_numbers(
         ≡ remove_numbers (filed (entering weights.now heads.old registers.old links.old ends.old n m.old) directory.old) numbers.now }
 {
     let mut sum: u64 = 0;
-    let mut i: usize = 0;
-    while i < numbers.len() {
-        let r = numbers[i];
+    for &r in numbers {
         let answer = remove_number(weights, heads, registers, links, ends, n, m, directory, r);
-        sum = wrapping_add_u64(sum, removal_adds(answer));
-        i += 1;
+        sum = sum.wrapping_add(adds(answer));
     }
     sum
 }

@@ -1,23 +1,9 @@
-use Rattle.std.proofs.Common.{◌≡◌, length, refl, ap, arith}
-use Rattle.loops.specs.Loops.{calls}
-use Rattle.loops.proofs.Laws.{calls-more}
+use Rattle.std.proofs.Common.{refl, ap, ◌∙◌}
+use Rattle.loops.specs.Loops.{adds}
+use Rattle.loops.proofs.Laws.{calls-more, weight_adds}
 use Rattle.dirloops.specs.Loops.{weight_filed}
 use Rattle.dirloops.proofs.loop_remove_numbers.Goals as goal
 
-pub loop-i-init : goal.loop-i-init
-unfolding calls
-loop-i-init c = record { within = omega arith; stands = refl }
-
-pub loop-i-preserved : goal.loop-i-preserved
-loop-i-preserved c =
-    record {
-      within = omega arith;
-      stands =
-          calls-more _ _ _ c.loop-i.invariant.stands (ap weight_filed c.remove_number-answer.ensures) c.removal_adds.ensures
-          c.wrapping_add_u64-sum.ensures.value;
-    }
-
-pub returns : goal.returns
-returns c =
-    let e : c.loop-i.i ≡ length c.args.numbers.now = omega arith in
-    rw e at c.loop-i.invariant.stands
+pub loop-r-preserved : goal.loop-r-preserved
+loop-r-preserved c =
+    calls-more _ _ _ c.loop-r.invariant (ap weight_filed c.remove_number-answer.ensures) (c.adds-sum.ensures ∙ ap adds (weight_adds _)) refl
