@@ -12,12 +12,11 @@ ghost use Rattle.walker.specs.Sums.{sum_around};
 ghost use Rattle.sound.specs.Check.{checked, told_checked};
 ghost use Rattle.cells.specs.Told.{told, walker_in, told_in_cells, left_in_cells};
 
-use cells::parts::{
-    tell_check, tell_contains, tell_edge, tell_items, tell_step, tell_sum, tell_walker, walker_in,
-};
+use cells::parts::{tell, tell_check, tell_step, tell_walker, walker_in};
 use find::{contains_edge, find_edge, update_edge};
 use index::NodeIndex;
 use sound::check;
+use tables::Network;
 use walker::{Walker, sum_around};
 use walks::{edge_weights, edge_weights_mut, edges, edges_between, edges_mut, neighbors};
 
@@ -37,7 +36,7 @@ pub fn net_neighbors(
     ensures { out (told result count.new) items.new
         ≡ neighbors (entering weights.now heads.now registers.now links.now ends.now n m) a items.old }
 {
-    let answer = neighbors(
+    let net = Network {
         weights,
         heads,
         registers,
@@ -45,10 +44,8 @@ pub fn net_neighbors(
         ends,
         n,
         m,
-        NodeIndex(a),
-        items,
-    );
-    tell_items(answer, count)
+    };
+    tell(neighbors(net, NodeIndex(a), items), count)
 }
 
 // The register numbers of the same edges; how many.
@@ -67,7 +64,7 @@ pub fn net_edge_weights(
     ensures { out (told result count.new) items.new
         ≡ edge_weights (entering weights.now heads.now registers.now links.now ends.now n m) a items.old }
 {
-    let answer = edge_weights(
+    let net = Network {
         weights,
         heads,
         registers,
@@ -75,10 +72,8 @@ pub fn net_edge_weights(
         ends,
         n,
         m,
-        NodeIndex(a),
-        items,
-    );
-    tell_items(answer, count)
+    };
+    tell(edge_weights(net, NodeIndex(a), items), count)
 }
 
 // The numbers of those whose far end is b; how many.
@@ -98,7 +93,7 @@ pub fn net_edges_between(
     ensures { out (told result count.new) items.new
         ≡ edges_between (entering weights.now heads.now registers.now links.now ends.now n m) a b items.old }
 {
-    let answer = edges_between(
+    let net = Network {
         weights,
         heads,
         registers,
@@ -106,11 +101,8 @@ pub fn net_edges_between(
         ends,
         n,
         m,
-        NodeIndex(a),
-        NodeIndex(b),
-        items,
-    );
-    tell_items(answer, count)
+    };
+    tell(edges_between(net, NodeIndex(a), NodeIndex(b), items), count)
 }
 
 // The numbers of all edges of node a, incoming ones first; how many.
@@ -129,7 +121,7 @@ pub fn net_edges_mut(
     ensures { out (told result count.new) items.new
         ≡ edges_mut (entering weights.now heads.now registers.now links.now ends.now n m) a items.old }
 {
-    let answer = edges_mut(
+    let net = Network {
         weights,
         heads,
         registers,
@@ -137,10 +129,8 @@ pub fn net_edges_mut(
         ends,
         n,
         m,
-        NodeIndex(a),
-        items,
-    );
-    tell_items(answer, count)
+    };
+    tell(edges_mut(net, NodeIndex(a), items), count)
 }
 
 // The rows of the mutable weights: those of `edges_mut`.
@@ -159,7 +149,7 @@ pub fn net_edge_weights_mut(
     ensures { out (told result count.new) items.new
         ≡ edges_mut (entering weights.now heads.now registers.now links.now ends.now n m) a items.old }
 {
-    let answer = edge_weights_mut(
+    let net = Network {
         weights,
         heads,
         registers,
@@ -167,10 +157,8 @@ pub fn net_edge_weights_mut(
         ends,
         n,
         m,
-        NodeIndex(a),
-        items,
-    );
-    tell_items(answer, count)
+    };
+    tell(edge_weights_mut(net, NodeIndex(a), items), count)
 }
 
 // Number, source and target of each edge of the neighbour walk; how many.
@@ -191,7 +179,7 @@ pub fn net_edges(
     ensures { out (told result count.new) (tables3 numbers.new sources.new targets.new)
         ≡ edges (entering weights.now heads.now registers.now links.now ends.now n m) a (tables3 numbers.old sources.old targets.old) }
 {
-    let answer = edges(
+    let net = Network {
         weights,
         heads,
         registers,
@@ -199,12 +187,9 @@ pub fn net_edges(
         ends,
         n,
         m,
-        NodeIndex(a),
-        numbers,
-        sources,
-        targets,
-    );
-    tell_items(answer, count)
+    };
+    let answer = edges(net, NodeIndex(a), numbers, sources, targets);
+    tell(answer, count)
 }
 
 // The first edge of a whose far end is b.
@@ -222,7 +207,7 @@ pub fn net_find_edge(
 ) -> u32
     ensures { told result edge.new ≡ find_edge (entering weights.now heads.now registers.now links.now ends.now n m) a b }
 {
-    let answer = find_edge(
+    let net = Network {
         weights,
         heads,
         registers,
@@ -230,10 +215,8 @@ pub fn net_find_edge(
         ends,
         n,
         m,
-        NodeIndex(a),
-        NodeIndex(b),
-    );
-    tell_edge(answer, edge)
+    };
+    tell(find_edge(net, NodeIndex(a), NodeIndex(b)), edge)
 }
 
 // 1 where there is such an edge, else 0.
@@ -251,7 +234,7 @@ pub fn net_contains_edge(
 ) -> u32
     ensures { told result found.new ≡ contains_edge (entering weights.now heads.now registers.now links.now ends.now n m) a b }
 {
-    let answer = contains_edge(
+    let net = Network {
         weights,
         heads,
         registers,
@@ -259,10 +242,8 @@ pub fn net_contains_edge(
         ends,
         n,
         m,
-        NodeIndex(a),
-        NodeIndex(b),
-    );
-    tell_contains(answer, found)
+    };
+    tell(contains_edge(net, NodeIndex(a), NodeIndex(b)), found)
 }
 
 // Sets the weight of the edge that is found, or adds one; its number.
@@ -282,19 +263,9 @@ pub fn net_update_edge(
     ensures { out (told result edge.new) (leaving weights.now heads.new registers.new links.new ends.new n m.new)
         ≡ update_edge (entering weights.now heads.old registers.old links.old ends.old n m.old) a b w }
 {
-    let answer = update_edge(
-        weights,
-        heads,
-        registers,
-        links,
-        ends,
-        n,
-        m,
-        NodeIndex(a),
-        NodeIndex(b),
-        w,
-    );
-    tell_edge(answer, edge)
+    let (a, b) = (NodeIndex(a), NodeIndex(b));
+    let answer = update_edge(weights, heads, registers, links, ends, n, m, a, b, w);
+    tell(answer, edge)
 }
 
 // The sum of the totals of the neighbours of node a.
@@ -311,8 +282,16 @@ pub fn net_sum_around(
 ) -> u32
     ensures { told result sum.new ≡ sum_around (entering weights.now heads.now registers.now links.now ends.now n m) a }
 {
-    let answer = sum_around(weights, heads, registers, links, ends, n, m, NodeIndex(a));
-    tell_sum(answer, sum)
+    let net = Network {
+        weights,
+        heads,
+        registers,
+        links,
+        ends,
+        n,
+        m,
+    };
+    tell(sum_around(net, NodeIndex(a)), sum)
 }
 
 // The rows read of a sound network; at 6 direction and node of the first fault.
@@ -330,8 +309,16 @@ pub fn net_check(
 ) -> u32
     ensures { told result (rows.new, direction.new, node.new) ≡ told_checked (checked (entering weights.now heads.now registers.now links.now ends.now n m)) }
 {
-    let answer = check(weights, heads, registers, links, ends, n, m);
-    tell_check(answer, rows, direction, node)
+    let net = Network {
+        weights,
+        heads,
+        registers,
+        links,
+        ends,
+        n,
+        m,
+    };
+    tell_check(check(net), rows, direction, node)
 }
 
 // A walker at the heads of node a's two lists: the node, its next outgoing and its next incoming edge.
@@ -348,8 +335,16 @@ pub fn net_walker_new(
 ) -> u32
     ensures { told result walker.new ≡ told_in_cells (begin (entering weights.now heads.now registers.now links.now ends.now n m) a) }
 {
-    let answer = Walker::new(weights, heads, registers, links, ends, n, m, NodeIndex(a));
-    tell_walker(answer, walker)
+    let net = Network {
+        weights,
+        heads,
+        registers,
+        links,
+        ends,
+        n,
+        m,
+    };
+    tell_walker(Walker::new(net, NodeIndex(a)), walker)
 }
 
 // The lent walker, moved on by one neighbour.
@@ -367,7 +362,15 @@ pub fn net_walker_next(
     ensures { out (told result neighbor.new) walker.new
         ≡ left_in_cells (step (entering weights.now heads.now registers.now links.now ends.now n m) (walker_in walker.old)) }
 {
-    let w = walker_in(walker);
-    let answer = w.step(weights, heads, registers, links, ends, n, m);
-    tell_step(answer, walker, neighbor)
+    let net = Network {
+        weights,
+        heads,
+        registers,
+        links,
+        ends,
+        n,
+        m,
+    };
+    let step = walker_in(walker).step(net);
+    tell_step(step, walker, neighbor)
 }
