@@ -3,4 +3,3 @@
 #![tactic(auto)]
 
 pub mod parts;
-pub mod row;

@@ -5,11 +5,13 @@ ghost use Rattle.layout.specs.Numbers.{placed};
 ghost use Rattle.imagerows.specs.Image.{rows_of, image_of, each, loaded};
 ghost use Rattle.imagerows.specs.Parts.{ImageHeld};
 
-use crate::row::TableRow;
 use layout::parts::put_head;
 use layout::{HEAD_BYTES, NODE_BYTES};
+use row::TableRow;
 use tables::parts::{vacate_edges, vacate_nodes};
 use tables::{Edge, Network, Node};
+
+pub mod row;
 
 // The first rows of a kind, one behind the other from a place on.
 fn write_rows<R: TableRow>(net: Network, rows: usize, first: usize, bytes: &mut [u8])
