@@ -199,29 +199,29 @@ leb-min n a b = go (leb n a) refl (leb n b) refl
     go false p y q = lt-leb n (min a b) (omega (arith, leb-false n a p))
 
 -- the cells of the shortest of three tables
-abbrev pub shortest : Tables3 → ℕ
-shortest t = min (min (length t.numbers) (length t.sources)) (length t.targets)
+abbrev pub least_room : Tables3 → ℕ
+least_room t = min (min (length t.numbers) (length t.sources)) (length t.targets)
 
-room_least : (n : ℕ) (t : Tables3) → leb n (shortest t) ≡ room_for n t
+room_least : (n : ℕ) (t : Tables3) → leb n (least_room t) ≡ room_for n t
 room_least n t =
     leb-min n (min (length t.numbers) (length t.sources)) (length t.targets)
     ∙ ap (λ b. b && leb n (length t.targets)) (leb-min n (length t.numbers) (length t.sources))
 
 pub edges_by : (registers links ends : List ℕ) (m : ℕ) (first second : Leg) (t : Tables3)
     → let items : Item → List ℕ = λ item. legs_give registers links ends m item first second in
-    by (prepared links ends m first second (shortest t))
+    by (prepared links ends m first second (least_room t))
     (out (done (length (items Number))) (tables3 (onto (items Number) t.numbers) (onto (items Near) t.sources) (onto (items Far) t.targets)))
     t
     ≡ edges_told registers links ends m first second t
 edges_by registers links ends m first second t =
-    let room = shortest t in
+    let room = least_room t in
     let items : Item → List ℕ = λ item. legs_give registers links ends m item first second in
     let given = out (done (length (items Number))) (tables3 (onto (items Number) t.numbers) (onto (items Near) t.sources) (onto (items Far) t.targets)) in
     by_tests links ends m first second room given t
     ∙ ap (λ d. tests links m first second d given t) (room_least _ t ∙ ap (λ n. room_for n t) (sym (items_length registers links ends m Number first second)))
 
 pub edges_told_by : (registers links ends : List ℕ) (m : ℕ) (first second : Leg) (t : Tables3) {l : ℕ} {r v : Result Prepared Refusal}
-    → l ≡ shortest t → r ≡ prepared links ends m first second l → r ≡ v
+    → l ≡ least_room t → r ≡ prepared links ends m first second l → r ≡ v
     → let items : Item → List ℕ = λ item. legs_give registers links ends m item first second in
     by v (out (done (length (items Number))) (tables3 (onto (items Number) t.numbers) (onto (items Near) t.sources) (onto (items Far) t.targets))) t
     ≡ edges_told registers links ends m first second t

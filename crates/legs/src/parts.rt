@@ -151,7 +151,7 @@ pub fn walk(
     Ok(count as u32)
 }
 
-// Two legs into three output tables: number, near end and far end of each row.
+// Two legs into three output tables: number, near end and far end of each row. C lends each table on its own.
 pub fn walk_edges(
     registers: &[u32],
     links: &[u32],

@@ -31,7 +31,8 @@ pub enum Item {
     Weight,
 }
 
-// The first row that a walk takes; else the link where its list ends, or that it does not end within m rows.
+// The first row that a walk takes; else the link where its list ends, or that it does not end within m rows. Three ways, and no
+// Result: callers go on at an end, so it is no refusal, and each of the other two has a meaning of its own.
 #[derive(Clone, Copy)]
 pub enum Found {
     At(EdgeIndex),

@@ -28,6 +28,7 @@ pub fn first(links: &[u32], ends: &[u32], m: u32, k: usize, pick: Pick, link: u3
     let far = 1 - k;
     let mut e = link;
     let mut rows = 0;
+    // No `for _ in 0..m`: a list of m rows is at its end behind the last turn, so that its end would be tested in two places.
     loop {
         if m <= e {
             break Found::End(EdgeIndex(e));
@@ -62,6 +63,7 @@ pub fn count_both(
     let mut f = other;
     let mut rows = 0;
     let mut others = 0;
+    // No `for`, as in `first`; and how many turns there were is what is told.
     while e < m {
         if rows == m {
             return None;
@@ -142,6 +144,7 @@ pub fn give(
 {
     let far = 1 - k;
     let mut e = link;
+    // It moves on only at a row that is taken, so it is no index of the loop.
     let mut at = 0;
     for _ in 0..rows {
         let row = EDGE_CELLS * EdgeIndex(e).index();

@@ -17,6 +17,7 @@ pub fn sum(net: Network, k: usize, pick: Pick, link: u32, before: i64) -> Option
     let mut e = link;
     let mut rows = 0;
     let mut total = before;
+    // No `for _ in 0..net.m`, as in `lists::parts::first`: the end of the list would be tested in two places.
     while e < net.m {
         if rows == net.m {
             return None;
