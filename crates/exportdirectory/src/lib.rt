@@ -16,10 +16,7 @@ ghost use Rattle.bynumber.specs.Numbers.{find_number, remove_number};
 ghost use Rattle.cells.specs.Told.{told};
 
 use bynumber::{find_number, remove_number};
-use cells::parts::{
-    tell_change, tell_check, tell_edge, tell_edge_removed, tell_items, tell_node_removed,
-};
-use closing::NodeRemoved;
+use cells::parts::{tell, tell_change, tell_check, tell_edge_removed, tell_node_removed};
 use dirclosing::remove_node;
 use dirfind::update_edge;
 use dirimage::{image_read, image_write};
@@ -27,7 +24,7 @@ use dirremoval::remove_edge;
 use dirrows::{add_edge, clear, clear_edges, set_edge_weight};
 use dirsound::check;
 use index::{EdgeIndex, NodeIndex};
-use removal::EdgeRemoved;
+use tables::Network;
 
 // Accepts exactly the sound networks with a right directory; at 6 the place of the first fault, which for the directory is incoming, n + 1.
 pub fn net_dir_check(
@@ -46,7 +43,16 @@ pub fn net_dir_check(
     ensures { told result (rows.new, direction.new, node.new)
         ≡ told_checked (checked_filed (filed (entering weights.now heads.now registers.now links.now ends.now n m) directory.now)) }
 {
-    let answer = check(weights, heads, registers, links, ends, n, m, directory);
+    let net = Network {
+        weights,
+        heads,
+        registers,
+        links,
+        ends,
+        n,
+        m,
+    };
+    let answer = check(net, directory);
     tell_check(answer, rows, direction, node)
 }
 
@@ -81,7 +87,7 @@ pub fn net_dir_add_edge(
         NodeIndex(b),
         w,
     );
-    tell_edge(answer, edge)
+    tell(answer, edge)
 }
 
 // Sets the weight of the edge that is found, else adds one; its number.
@@ -115,7 +121,7 @@ pub fn net_dir_update_edge(
         NodeIndex(b),
         w,
     );
-    tell_edge(answer, edge)
+    tell(answer, edge)
 }
 
 // Sets the weight of edge e, and moves its entry.
@@ -167,7 +173,7 @@ pub fn net_dir_remove_edge(
     ensures { out (told result (weight.new, moved.new, rows.new)) (filed (leaving weights.now heads.new registers.new links.new ends.new n m.new) directory.new)
         ≡ remove_edge_filed (filed (entering weights.now heads.old registers.old links.old ends.old n m.old) directory.old) e }
 {
-    let answer: EdgeRemoved = remove_edge(
+    let answer = remove_edge(
         weights,
         heads,
         registers,
@@ -201,7 +207,7 @@ pub fn net_dir_remove_node(
         (filed (leaving weights.new heads.new registers.new links.new ends.new n.new m.new) directory.new, items.new)
         ≡ remove_node_filed (filed (entering weights.old heads.old registers.old links.old ends.old n.old m.old) directory.old) a items.old }
 {
-    let answer: NodeRemoved = remove_node(
+    let answer = remove_node(
         weights,
         heads,
         registers,
@@ -268,10 +274,17 @@ pub fn net_dir_image_write(
     ensures { out (told result length.new) bytes.new
         ≡ image_write_filed (filed (entering weights.now heads.now registers.now links.now ends.now n m) directory.now) bytes.old }
 {
-    let answer = image_write(
-        weights, heads, registers, links, ends, n, m, directory, bytes,
-    );
-    tell_items(answer, length)
+    let net = Network {
+        weights,
+        heads,
+        registers,
+        links,
+        ends,
+        n,
+        m,
+    };
+    let answer = image_write(net, directory, bytes);
+    tell(answer, length)
 }
 
 // The network that an image has, in place of the one lent, and its directory.
@@ -310,8 +323,17 @@ pub fn net_dir_find_number(
 ) -> u32
     ensures { told result edge.new ≡ find_number (filed (entering weights.now heads.now registers.now links.now ends.now n m) directory.now) r }
 {
-    let answer = find_number(weights, heads, registers, links, ends, n, m, directory, r);
-    tell_edge(answer, edge)
+    let net = Network {
+        weights,
+        heads,
+        registers,
+        links,
+        ends,
+        n,
+        m,
+    };
+    let answer = find_number(net, directory, r);
+    tell(answer, edge)
 }
 
 // Takes out the edge that bears register number r: what the removal of that edge tells.
@@ -332,8 +354,6 @@ pub fn net_dir_remove_number(
     ensures { out (told result (weight.new, moved.new, rows.new)) (filed (leaving weights.now heads.new registers.new links.new ends.new n m.new) directory.new)
         ≡ remove_number (filed (entering weights.now heads.old registers.old links.old ends.old n m.old) directory.old) r }
 {
-    let answer: EdgeRemoved = remove_number(
-        weights, heads, registers, links, ends, n, m, directory, r,
-    );
+    let answer = remove_number(weights, heads, registers, links, ends, n, m, directory, r);
     tell_edge_removed(answer, weight, moved, rows)
 }
