@@ -43,24 +43,24 @@ extents_at links m first second =
     extents_of (rows_from links m first.k first.link) (stop_from links m first.k first.link)
     (rows_from links m second.k second.link) (stop_from links m second.k second.link) m
 
-pub both-known : (links : List ℕ) (m : ℕ) (first second : Leg) {rows others : ℕ} → extents_at links m first second ≡ Some (rows, others)
+pub both-known : {links : List ℕ} {m : ℕ} (first second : Leg) {r : Option (ℕ × ℕ)} {rows others : ℕ} → r ≡ extents_at links m first second → r ≡ Some (rows, others)
     → Both links m first second rows others
-both-known links m first second h =
-    let e = extents_rows _ _ _ _ _ h in
-    record { both_end = e.0; first_rows = e.1; second_rows = e.2 }
+both-known first second e h =
+    let b = extents_rows _ _ _ _ _ (sym e ∙ h) in
+    record { both_end = b.0; first_rows = b.1; second_rows = b.2 }
 
 module _ (links ends : List ℕ) (m : ℕ) (first second : Leg) where
-  pub none-settled : extents_at links m first second ≡ None → None ≡ settled links ends m first second
-  none-settled h = rw (extents_broken _ _ _ _ _ h)
+  pub none-settled : {r : Option (ℕ × ℕ)} → r ≡ extents_at links m first second → r ≡ None → None ≡ settled links ends m first second
+  none-settled e h = rw (extents_broken _ _ _ _ _ (sym e ∙ h))
 
   pub both-settled : {rows others mid more : ℕ} → Both links m first second rows others → mid ≡ length (leg_takes links ends m first) → more ≡ length (leg_takes links ends m second)
       → Some (record { rows = rows; taken = mid; others = others; count = mid + more }) ≡ settled links ends m first second
   both-settled b p q = rw (b.both_end, b.first_rows, b.second_rows, p, q)
 
 module _ (links ends : List ℕ) (m : ℕ) (first second : Leg) (room : ℕ) where
-  pub one_broken : extents_at links m first second ≡ None → Err Broken ≡ prepared links ends m first second room
+  pub one_broken : {r : Option (ℕ × ℕ)} → r ≡ extents_at links m first second → r ≡ None → Err Broken ≡ prepared links ends m first second room
   unfolding prepared
-  one_broken h = rw (extents_broken _ _ _ _ _ h)
+  one_broken e h = rw (extents_broken _ _ _ _ _ (sym e ∙ h))
 
   module _ {rows others : ℕ} (b : Both links m first second rows others) where
     pub room_for_items : length (leg_takes links ends m first) + length (leg_takes links ends m second) ≤ room
