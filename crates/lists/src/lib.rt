@@ -12,7 +12,8 @@ pub enum Spot {
     After(u32),
 }
 
-// Which rows of a list a walk takes, by their far end.
+// Which rows of a list a walk takes, by their far end. A value and no closure: the definitions `picked`, `taken_from`, `picks` and
+// `around` are of it, and so is every walk's.
 #[derive(Clone, Copy)]
 pub enum Pick {
     Every,
@@ -22,7 +23,8 @@ pub enum Pick {
     ToNot(NodeIndex, NodeIndex),
 }
 
-// What a walk gives for a row: its number, the end in whose list it stands, the other end, or its weight.
+// What a walk gives for a row: its number, the end in whose list it stands, the other end, or its weight. A value, as `Pick` is:
+// the definitions `item_of`, `gives`, `around` and `give_three` are of it.
 #[derive(Clone, Copy)]
 pub enum Item {
     Number,
