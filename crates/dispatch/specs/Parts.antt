@@ -1,5 +1,17 @@
--- The letters by what their commands do: the parts of the dispatch ask which theirs is not.
+-- What stays on a desk; and the letters by what their commands do: the parts of the dispatch ask which theirs is not.
 use Rattle.std.specs.Prelude.{ℕ, ◌≡◌}
+use Rattle.dispatch.specs.declared.Desk.{Desk}
+
+-- two moments of a desk: the same columns and tables lie on it, whatever they hold
+pub record SameTables (before after : Desk) : Type 0 where
+  pub weights_stay : before.weights.ghost_name ≡ after.weights.ghost_name
+  pub heads_stay : before.heads.ghost_name ≡ after.heads.ghost_name
+  pub registers_stay : before.registers.ghost_name ≡ after.registers.ghost_name
+  pub links_stay : before.links.ghost_name ≡ after.links.ghost_name
+  pub ends_stay : before.ends.ghost_name ≡ after.ends.ghost_name
+  pub items_stay : before.items.ghost_name ≡ after.items.ghost_name
+  pub sources_stay : before.sources.ghost_name ≡ after.sources.ghost_name
+  pub targets_stay : before.targets.ghost_name ≡ after.targets.ghost_name
 
 -- no command that adds
 pub record NotAdding (letter : ℕ) : Type 0 where

@@ -1,13 +1,14 @@
 -- One command of a script: its letter says what is done.
-use Rattle.std.specs.Prelude.{ℕ, cond, List, eqb, ℤ}
+use Rattle.std.specs.Prelude.{ℕ, cond, List, eqb}
 use Rattle.index.specs.declared.Refusal.TheVariants.{NotCommand}
 use Rattle.index.specs.Refusals.{refusal_no}
-use Rattle.tables.specs.Net.{Net, entering, leaving}
+use Rattle.tables.specs.Net.{Net, net}
 use Rattle.legs.specs.Legs.{Tables3, tables3}
 use Rattle.reply.specs.declared.Reply.{Reply}
 use Rattle.reply.specs.Replies.{bare_reply}
 use Rattle.commands.specs.Commands.{Replied, replied, add_node_line, add_edge_line, update_edge_line, remove_edge_line, remove_node_line, clear_edges_line, clear_line}
 use Rattle.commands.specs.Commands.{find_edge_line, neighbors_line, edges_line, edges_mut_line, edges_between_line, sum_around_line, check_line}
+use Rattle.dispatch.specs.declared.Desk.{Desk}
 use Rattle.dispatch.specs.declared.Numbers.{Numbers}
 
 -- what a run keeps from line to line: the network, and the output tables of its commands
@@ -59,11 +60,6 @@ step letter o s =
     (cond (eqb letter 90) (changes s (clear_line g))
     (no_command s))))))))))))))
 
--- the state as the dispatch finds it, and as it leaves it
-abbrev pub found : List ℤ → List ℕ → List ℕ → List ℕ → List ℕ → ℕ → ℕ → List ℕ → List ℕ → List ℕ → State
-found weights heads registers links ends n m items sources targets =
-    state (entering weights heads registers links ends n m) (tables3 items sources targets)
-
-abbrev pub left : List ℤ → List ℕ → List ℕ → List ℕ → List ℕ → ℕ → ℕ → List ℕ → List ℕ → List ℕ → State
-left weights heads registers links ends n m items sources targets =
-    state (leaving weights heads registers links ends n m) (tables3 items sources targets)
+-- the network and the tables that lie on a desk
+abbrev pub state_of : Desk → State
+state_of d = state (net d.weights.now d.heads.now d.registers.now d.links.now d.ends.now d.n d.m) (tables3 d.items.now d.sources.now d.targets.now)

@@ -2,11 +2,9 @@
 #![tactic(auto)]
 
 ghost use Rattle.std.specs.Prelude.{◌≡◌};
-ghost use Rattle.tables.specs.Net.{entering};
-ghost use Rattle.legs.specs.Legs.{tables3};
 ghost use Rattle.commands.specs.Commands.{replied};
-ghost use Rattle.dispatch.specs.Step.{state, step, found, left};
-ghost use Rattle.dispatch.specs.Parts.{NotAdding, NotChanging};
+ghost use Rattle.dispatch.specs.Step.{step, state_of};
+ghost use Rattle.dispatch.specs.Parts.{NotAdding, NotChanging, SameTables};
 
 use commands::{
     add_edge_line, add_node_line, check_line, clear_edges_line, clear_line, edges_between_line,
@@ -15,6 +13,23 @@ use commands::{
 };
 use index::Refusal;
 use reply::Reply;
+use tables::Network;
+
+// What a run works on, from line to line: the network's columns and counts, and the output tables of its commands. `sources` and `targets`
+// are for the ends of a G, which no line tells.
+#[derive(Drop)]
+pub struct Desk<'a> {
+    pub weights: &'a mut [i32],
+    pub heads: &'a mut [u32],
+    pub registers: &'a mut [u32],
+    pub links: &'a mut [u32],
+    pub ends: &'a mut [u32],
+    pub n: u32,
+    pub m: u32,
+    pub items: &'a mut [u32],
+    pub sources: &'a mut [u32],
+    pub targets: &'a mut [u32],
+}
 
 // The numbers behind a letter: the node weight of an N, or up to three others.
 #[derive(Clone, Copy)]
@@ -25,106 +40,86 @@ pub struct Numbers {
     pub c: u32,
 }
 
-// The command of a letter: those that add stand here, the others in the two functions below. The second and third table are for the ends
-// of a G, which no line tells.
-pub fn dispatch(
-    weights: &mut [i32],
-    heads: &mut [u32],
-    registers: &mut [u32],
-    links: &mut [u32],
-    ends: &mut [u32],
-    n: &mut u32,
-    m: &mut u32,
-    items: &mut [u32],
-    sources: &mut [u32],
-    targets: &mut [u32],
-    letter: u8,
-    o: Numbers,
-) -> Reply
-    ensures { replied result (left weights.new heads.new registers.new links.new ends.new n.new m.new items.new sources.new targets.new)
-        ≡ step letter o (found weights.old heads.old registers.old links.old ends.old n.old m.old items.old sources.old targets.old) }
+// The command of a letter: those that add stand here, the others in the two functions below.
+#[tactic(auto, unfolding(crate::specs::Step::step))]
+pub fn dispatch(desk: &mut Desk, letter: u8, o: Numbers) -> Reply
+    ensures does { replied result (state_of desk.new) ≡ step letter o (state_of desk.old) }
+    ensures same { SameTables desk.old desk.new }
 {
-    let nodes = *n;
-    let edges = *m;
+    let (n, m) = (desk.n, desk.m);
+    // Columns that a command only reads are lent by `&mut` as well: the prover has no rule yet for a `&` of one field beside a `&mut` of another.
+    let weights = &mut *desk.weights;
+    let heads = &mut *desk.heads;
+    let registers = &mut *desk.registers;
+    let links = &mut *desk.links;
+    let ends = &mut *desk.ends;
+    let nodes = &mut desk.n;
+    let edges = &mut desk.m;
     match letter {
-        b'N' => add_node_line(weights, heads, registers, links, ends, n, edges, o.w),
+        b'N' => add_node_line(weights, heads, registers, links, ends, nodes, m, o.w),
         b'E' => add_edge_line(
-            weights, heads, registers, links, ends, nodes, m, o.a, o.b, o.c,
+            weights, heads, registers, links, ends, n, edges, o.a, o.b, o.c,
         ),
         b'U' => update_edge_line(
-            weights, heads, registers, links, ends, nodes, m, o.a, o.b, o.c,
+            weights, heads, registers, links, ends, n, edges, o.a, o.b, o.c,
         ),
-        _ => take_out(
-            weights, heads, registers, links, ends, n, m, items, sources, targets, letter, o,
-        ),
+        _ => take_out(desk, letter, o),
     }
 }
 
 // The commands that take out.
 #[tactic(auto, unfolding(crate::specs::Step::step))]
-fn take_out(
-    weights: &mut [i32],
-    heads: &mut [u32],
-    registers: &mut [u32],
-    links: &mut [u32],
-    ends: &mut [u32],
-    n: &mut u32,
-    m: &mut u32,
-    items: &mut [u32],
-    sources: &mut [u32],
-    targets: &mut [u32],
-    letter: u8,
-    o: Numbers,
-) -> Reply
+fn take_out(desk: &mut Desk, letter: u8, o: Numbers) -> Reply
     requires { NotAdding letter }
-    ensures { replied result (left weights.new heads.new registers.new links.new ends.new n.new m.new items.new sources.new targets.new)
-        ≡ step letter o (found weights.old heads.old registers.old links.old ends.old n.old m.old items.old sources.old targets.old) }
+    ensures does { replied result (state_of desk.new) ≡ step letter o (state_of desk.old) }
+    ensures same { SameTables desk.old desk.new }
 {
-    let nodes = *n;
-    let edges = *m;
+    let n = desk.n;
+    let weights = &mut *desk.weights;
+    let heads = &mut *desk.heads;
+    let registers = &mut *desk.registers;
+    let links = &mut *desk.links;
+    let ends = &mut *desk.ends;
+    let nodes = &mut desk.n;
+    let edges = &mut desk.m;
     match letter {
-        b'X' => remove_edge_line(weights, heads, registers, links, ends, nodes, m, o.a),
-        b'D' => remove_node_line(weights, heads, registers, links, ends, n, m, o.a, items),
-        b'C' => clear_edges_line(weights, heads, registers, links, ends, nodes, m),
-        b'Z' => clear_line(weights, heads, registers, links, ends, n, m),
-        _ => tell(
-            weights, heads, registers, links, ends, nodes, edges, items, sources, targets, letter,
-            o,
+        b'X' => remove_edge_line(weights, heads, registers, links, ends, n, edges, o.a),
+        b'D' => remove_node_line(
+            weights, heads, registers, links, ends, nodes, edges, o.a, desk.items,
         ),
+        b'C' => clear_edges_line(weights, heads, registers, links, ends, n, edges),
+        b'Z' => clear_line(weights, heads, registers, links, ends, nodes, edges),
+        _ => tell(desk, letter, o),
     }
 }
 
 // The commands that leave the network as it is.
-fn tell(
-    weights: &[i32],
-    heads: &[u32],
-    registers: &[u32],
-    links: &[u32],
-    ends: &[u32],
-    n: u32,
-    m: u32,
-    items: &mut [u32],
-    sources: &mut [u32],
-    targets: &mut [u32],
-    letter: u8,
-    o: Numbers,
-) -> Reply
+#[tactic(auto, unfolding(crate::specs::Step::step))]
+fn tell(desk: &mut Desk, letter: u8, o: Numbers) -> Reply
     requires { NotChanging letter }
-    ensures { replied result (state (entering weights.now heads.now registers.now links.now ends.now n m) (tables3 items.new sources.new targets.new))
-        ≡ step letter o (state (entering weights.now heads.now registers.now links.now ends.now n m) (tables3 items.old sources.old targets.old)) }
+    ensures does { replied result (state_of desk.new) ≡ step letter o (state_of desk.old) }
+    ensures same { SameTables desk.old desk.new }
 {
+    let n = desk.n;
+    let m = desk.m;
+    // Each column is lent by `&mut` though it is only read: tried by `&`, and the prover has no rule yet for that beside the tables' `&mut`.
+    let net = Network {
+        weights: &mut *desk.weights,
+        heads: &mut *desk.heads,
+        registers: &mut *desk.registers,
+        links: &mut *desk.links,
+        ends: &mut *desk.ends,
+        n,
+        m,
+    };
     match letter {
-        b'F' => find_edge_line(weights, heads, registers, links, ends, n, m, o.a, o.b),
-        b'W' => neighbors_line(weights, heads, registers, links, ends, n, m, o.a, items),
-        b'G' => edges_line(
-            weights, heads, registers, links, ends, n, m, o.a, items, sources, targets,
-        ),
-        b'M' => edges_mut_line(weights, heads, registers, links, ends, n, m, o.a, items),
-        b'B' => edges_between_line(
-            weights, heads, registers, links, ends, n, m, o.a, o.b, items,
-        ),
-        b'A' => sum_around_line(weights, heads, registers, links, ends, n, m, o.a),
-        b'S' => check_line(weights, heads, registers, links, ends, n, m),
+        b'F' => find_edge_line(net, o.a, o.b),
+        b'W' => neighbors_line(net, o.a, desk.items),
+        b'G' => edges_line(net, o.a, desk.items, desk.sources, desk.targets),
+        b'M' => edges_mut_line(net, o.a, desk.items),
+        b'B' => edges_between_line(net, o.a, o.b, desk.items),
+        b'A' => sum_around_line(net, o.a),
+        b'S' => check_line(net),
         _ => Reply::bare(b'?', Refusal::NotCommand.number()),
     }
 }
