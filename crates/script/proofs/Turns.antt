@@ -1,11 +1,11 @@
 -- A run, line after line: where it starts, `started`; a line that fits, `turned`; one that does not, `stopped`; the end of the script, `ended`.
-use Prim.Native.Nat.{ℕ, ◌+◌, ◌≤◌, ◌<◌}
+use Prim.Native.Nat.{ℕ, ◌+◌, ◌-◌, ◌≤◌, ◌<◌}
 use mathlib.Core.Path.{◌≡◌, refl, sym, ap, ap₂, ◌∙◌}
 use mathlib.Core.List.{List, [], ◌∷◌, ◌++◌, map}
 use native.Mathlib.Nat.{zero-add}
 use native.Mathlib.Omega.{arith}
 use borrow.Author.Tests.{le-leb, lt-leb}
-use lib.ListN.{length, drop, length-append}
+use lib.ListN.{length, take, drop, length-append}
 use lib.Seq.{slice}
 use Rattle.index.specs.declared.Refusal.TheVariants.{Short}
 use Rattle.index.specs.Refusals.{refusal_no}
@@ -13,20 +13,22 @@ use Rattle.tables.specs.Answers.{onto}
 use Rattle.text.specs.Lines.{lines}
 use Rattle.printing.specs.Parts.{put}
 use Rattle.text.specs.Parts.{EndsLine}
-use Rattle.text.proofs.Cutting.{lines_at, lines_end}
+use Rattle.text.proofs.Cutting.{part_is, lines_at, lines_end}
 use Rattle.printing.proofs.Putting.{put_on, put-nothing}
 use Rattle.reply.specs.declared.Reply.{Reply}
-use Rattle.reply.specs.declared.Written.{Written}
-use Rattle.reply.specs.declared.Written.TheVariants as Written·
+use Rattle.std.specs.Prelude.{Option, Some, None}
 use Rattle.reply.specs.Replies.{line_of}
 use Rattle.reply.specs.Parts.{answered}
 use Rattle.reply.proofs.Fitting.{written, untouched}
 use Rattle.commands.specs.Commands.{Replied, replied}
+use Rattle.dispatch.specs.declared.Desk.{Desk}
+use Rattle.dispatch.specs.Parts.{SameTables}
 use Rattle.dispatch.specs.Step.{State}
+use Rattle.obeying.proofs.Sizes.{line_sizes}
 use Rattle.script.specs.declared.parts.Ended.{Ended}
 use Rattle.obeying.specs.Line.{line_answer}
 use Rattle.script.specs.Script.{answers, text_of, Ran, ran, printed, run_from}
-use Rattle.script.specs.Parts.{state_left, Ends}
+use Rattle.script.specs.Parts.{state_left, stop_no, Ends}
 
 -- the first line's answer, then those of the others
 answers_next : (line : List ℕ) (others : List (List ℕ)) (s : State) → answers (line ∷ others) s ≡ line_answer line s ∷ answers others (line_answer line s).after
@@ -65,6 +67,24 @@ module _ (limit at : ℕ) (s : State) where
     unfolding state_left
     left-stop h = rw (lt-leb (at + length (text_of o)) limit h)
 
+-- what stays on a desk, call after call
+pub same_on : {a b c : Desk} → SameTables a b → SameTables b c → SameTables a c
+same_on p q = record {
+  weights_stay = p.weights_stay ∙ q.weights_stay;
+  heads_stay = p.heads_stay ∙ q.heads_stay;
+  registers_stay = p.registers_stay ∙ q.registers_stay;
+  links_stay = p.links_stay ∙ q.links_stay;
+  ends_stay = p.ends_stay ∙ q.ends_stay;
+  items_stay = p.items_stay ∙ q.items_stay;
+  sources_stay = p.sources_stay ∙ q.sources_stay;
+  targets_stay = p.targets_stay ∙ q.targets_stay;
+}
+
+-- a line leaves as many items as it finds room for
+pub few_on : (line : List ℕ) (s : State) {r : Reply} {t : State} → replied r t ≡ line_answer line s → length s.tables.numbers ≤ 65536
+    → length t.tables.numbers ≤ 65536
+few_on line s e h = omega (arith, (line_sizes line s).1.0, ap (λ (o : Replied State). length o.after.tables.numbers) e)
+
 -- text at the front of an output
 pub front_is : (bytes text : List ℕ) → put bytes 0 text ≡ onto text bytes
 unfolding put
@@ -72,7 +92,7 @@ front_is bytes text = ap (λ n. text ++ drop n bytes) (zero-add (length text))
 
 -- what the run comes to, with its bytes at the front of the output
 ends_so : {s t : State} {limit : ℕ} {script before after : List ℕ} {q : Ended} {number : ℕ} {bytes : List ℕ} → run_from s limit script ≡ ran number bytes
-    → q.number ≡ number → q.bytes ≡ length bytes → after ≡ put before 0 bytes → t ≡ state_left limit 0 s (answers (lines script) s)
+    → stop_no q.stopped ≡ number → q.bytes ≡ length bytes → after ≡ put before 0 bytes → t ≡ state_left limit 0 s (answers (lines script) s)
     → Ends s t limit script before after q
 ends_so {s} {t} {limit} {script} {before} {after} {q} {number} {bytes} o n b e l =
     record {
@@ -101,12 +121,12 @@ started script output limit s =
 
 module _ {script output₀ : List ℕ} {limit : ℕ} {s₀ : State} {output : List ℕ} {s : State} {at to : ℕ} (g : Going script output₀ limit s₀ output s at to) where
   -- one line more: its reply r, and the state t that it leaves
-  module _ {end : ℕ} {r : Reply} {t : State} (more : at < length script) (e : EndsLine script at end) (a : replied r t ≡ line_answer (slice at end script) s) where
+  module _ {end : ℕ} {r : Reply} {t : State} (more : at < length script) (e : EndsLine script at end) (a : replied r t ≡ line_answer (take (end - at) (drop at script)) s) where
     next : answers_from script at s ≡ replied r t ∷ answers_from script (end + 1) t
     next =
         ap (λ ls. answers ls s) (lines_at more e)
         ∙ answers_next (slice at end script) (lines (drop (end + 1) script)) s
-        ∙ ap (λ o. o ∷ answers_from script (end + 1) o.after) (sym a)
+        ∙ ap (λ o. o ∷ answers_from script (end + 1) o.after) (sym (a ∙ ap (λ l. line_answer l s) (part_is e)))
 
     to_print : printed limit g.so_far (map text_of (replied r t ∷ answers_from script (end + 1) t)) ≡ run_from s₀ limit script
     to_print = sym (ap (λ os. printed limit g.so_far (map text_of os)) next) ∙ g.rest
@@ -114,8 +134,8 @@ module _ {script output₀ : List ℕ} {limit : ℕ} {s₀ : State} {output : Li
     to_leave : state_left limit to s (replied r t ∷ answers_from script (end + 1) t) ≡ state_left limit 0 s₀ (answers (lines script) s₀)
     to_leave = sym (ap (state_left limit to s) next) ∙ g.left_is
 
-    pub turned : {w : Written} {after : List ℕ} {stop : ℕ} → limit ≤ length output₀ → (w, after) ≡ answered output to limit (line_of r t.tables.numbers)
-        → w ≡ Written·.Upto stop → Going script output₀ limit s₀ after t (end + 1) stop
+    pub turned : {w : Option ℕ} {after : List ℕ} {stop : ℕ} → limit ≤ length output₀ → (w, after) ≡ answered output to limit (line_of r t.tables.numbers)
+        → w ≡ Some stop → Going script output₀ limit s₀ after t (end + 1) stop
     turned {w} {after} {stop} room h u =
         let text = line_of r t.tables.numbers in
         let v = written output to limit text (rw u at h) in
@@ -131,8 +151,8 @@ module _ {script output₀ : List ℕ} {limit : ℕ} {s₀ : State} {output : Li
           left_is = ap (λ n. state_left limit n t others) v.1.ends_at ∙ sym (left-on limit to s (replied r t) others v.0) ∙ to_leave;
         }
 
-    pub stopped : {w : Written} {after : List ℕ} {q : Ended} → (w, after) ≡ answered output to limit (line_of r t.tables.numbers) → w ≡ Written·.Full
-        → q.number ≡ refusal_no Short → q.bytes ≡ to → Ends s₀ t limit script output₀ after q
+    pub stopped : {w : Option ℕ} {after : List ℕ} {q : Ended} → (w, after) ≡ answered output to limit (line_of r t.tables.numbers) → w ≡ None
+        → stop_no q.stopped ≡ refusal_no Short → q.bytes ≡ to → Ends s₀ t limit script output₀ after q
     stopped {w} {after} h f n b =
         let text = line_of r t.tables.numbers in
         let u = untouched output to limit text (rw f at h) in
@@ -140,7 +160,7 @@ module _ {script output₀ : List ℕ} {limit : ℕ} {s₀ : State} {output : Li
         let o = sym to_print ∙ printed-stop limit g.so_far text (map text_of others) (omega (arith, g.long, u.0)) in
         ends_so o n (b ∙ g.long) (u.1 ∙ g.output_is) (sym (left-stop limit to s (replied r t) others u.0) ∙ to_leave)
 
-  pub ended : {q : Ended} → length script ≤ at → q.number ≡ 0 → q.bytes ≡ to → Ends s₀ s limit script output₀ output q
+  pub ended : {q : Ended} → length script ≤ at → stop_no q.stopped ≡ 0 → q.bytes ≡ to → Ends s₀ s limit script output₀ output q
   ended h n b =
       let none_left : answers_from script at s ≡ [] = ap (λ ls. answers ls s) (lines_end script at h) ∙ answers-none s in
       let o = sym g.rest ∙ ap (λ os. printed limit g.so_far (map text_of os)) none_left ∙ printed-none limit g.so_far in

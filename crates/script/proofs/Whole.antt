@@ -11,7 +11,7 @@ use Rattle.index.specs.Refusals.{refusal_no}
 use Rattle.dispatch.specs.Step.{State}
 use Rattle.script.specs.declared.parts.Ended.{Ended}
 use Rattle.script.specs.Script.{most_bytes, begun, run, packed}
-use Rattle.script.specs.Parts.{Ends}
+use Rattle.script.specs.Parts.{Ends, stop_no}
 use Rattle.script.proofs.Limits.{from_most}
 
 module _ (script : List ℕ) {output : List ℕ} where
@@ -23,7 +23,7 @@ module _ (script : List ℕ) {output : List ℕ} where
     pub few_bytes : q.bytes < 2 ^ 32
     few_bytes = omega (arith, e.bytes_are, from_most begun limit script, l, min-le_right (length output) most_bytes)
 
-    pub packed_so : {r : ℕ} → length script ≤ most_bytes → r ≡ q.number * 2 ^ 32 + q.bytes → (r, after) ≡ packed (run script (length output)) output
+    pub packed_so : {r : ℕ} → length script ≤ most_bytes → r ≡ stop_no q.stopped * 2 ^ 32 + q.bytes → (r, after) ≡ packed (run script (length output)) output
     unfolding run
     packed_so h p =
         rw (le-leb (length script) most_bytes h, ← l) (ap₂ (λ x y. (x, y)) (p ∙ ap₂ (λ n b. n * 2 ^ 32 + b) e.number_is e.bytes_are) e.output_is)

@@ -4,6 +4,7 @@
 ghost use Rattle.std.specs.Prelude.{◌≡◌, length};
 ghost use Rattle.script.specs.Script.{run, packed};
 
+use dispatch::Desk;
 use index::{EdgeIndex, NodeIndex, Refusal};
 use parts::{limit_of, pack, run_lines};
 use tables::parts::{EDGE_CELLS, NODE_CELLS};
@@ -20,7 +21,8 @@ pub const EDGE_ROOM: usize = 1024;
 
 pub const ITEM_ROOM: usize = 2048;
 
-// Runs a script from an empty network and writes its answer lines: the answer number times 2^32, plus the bytes written.
+// Runs a script from an empty network and writes its answer lines: the answer number times 2^32, plus the bytes written, in one number as C
+// gets it (`script_c`).
 pub fn net_run(script: &[u8], out: &mut [u8]) -> u64
     ensures { (result, out.new) ≡ packed (run script.now (length out.old)) out.old }
 {
@@ -33,25 +35,21 @@ pub fn net_run(script: &[u8], out: &mut [u8]) -> u64
     let mut registers = [0u32; EDGE_ROOM];
     let mut links = [EdgeIndex::END.0; EDGE_CELLS * EDGE_ROOM];
     let mut ends = [NodeIndex::END.0; EDGE_CELLS * EDGE_ROOM];
-    let mut n: u32 = 0;
-    let mut m: u32 = 0;
     let mut items = [0u32; ITEM_ROOM];
     let mut sources = [0u32; ITEM_ROOM];
     let mut targets = [0u32; ITEM_ROOM];
-    let ended = run_lines(
-        script,
-        out,
-        limit,
-        &mut weights,
-        &mut heads,
-        &mut registers,
-        &mut links,
-        &mut ends,
-        &mut n,
-        &mut m,
-        &mut items,
-        &mut sources,
-        &mut targets,
-    );
-    pack(ended.number, ended.bytes)
+    let mut desk = Desk {
+        weights: &mut weights,
+        heads: &mut heads,
+        registers: &mut registers,
+        links: &mut links,
+        ends: &mut ends,
+        n: 0,
+        m: 0,
+        items: &mut items,
+        sources: &mut sources,
+        targets: &mut targets,
+    };
+    let ended = run_lines(script, out, limit, &mut desk);
+    pack(ended.number(), ended.bytes)
 }

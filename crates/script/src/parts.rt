@@ -1,55 +1,50 @@
 // What a run is made of: the loop over the lines, its limit, and its result.
 ghost use Rattle.std.specs.Prelude.{◌≡◌, ◌+◌, ◌*◌, ◌^◌, ◌<◌, min};
-ghost use Rattle.dispatch.specs.Step.{found, left};
+ghost use Rattle.dispatch.specs.Step.{state_of};
+ghost use Rattle.dispatch.specs.Parts.{SameTables};
 ghost use Rattle.script.specs.Script.{most_bytes};
-ghost use Rattle.script.specs.Parts.{Runnable, Ends};
+ghost use Rattle.script.specs.Parts.{Runnable, Ends, stop_no};
 
 use crate::MOST_BYTES;
+use dispatch::Desk;
 use index::Refusal;
 use obeying::parts::answer_line;
-use reply::Written;
 use reply::parts::answer;
 use text::parts::line_end;
 
-// How a run ended: its answer number, and the bytes written.
+// How a run ended: what stopped it before its script's end, if anything did, and the bytes written.
 #[derive(Clone, Copy)]
 pub struct Ended {
-    pub number: u32,
+    pub stopped: Option<Refusal>,
     pub bytes: usize,
 }
 
+impl Ended {
+    // The answer number: 0 where the whole script was run.
+    pub fn number(self) -> u32
+        ensures { result ≡ stop_no self.stopped }
+    {
+        match self.stopped {
+            Some(why) => why.number(),
+            None => 0,
+        }
+    }
+}
+
 // Obeys line after line, and writes their answers to the front of the output. The first that ends past `limit` stops it.
-pub fn run_lines(
-    script: &[u8],
-    out: &mut [u8],
-    limit: usize,
-    weights: &mut [i32],
-    heads: &mut [u32],
-    registers: &mut [u32],
-    links: &mut [u32],
-    ends: &mut [u32],
-    n: &mut u32,
-    m: &mut u32,
-    items: &mut [u32],
-    sources: &mut [u32],
-    targets: &mut [u32],
-) -> Ended
-    requires { Runnable script.now out.old limit items.old }
-    ensures { Ends
-        (found weights.old heads.old registers.old links.old ends.old n.old m.old items.old sources.old targets.old)
-        (left weights.new heads.new registers.new links.new ends.new n.new m.new items.new sources.new targets.new)
-        limit script.now out.old out.new result }
+pub fn run_lines(script: &[u8], out: &mut [u8], limit: usize, desk: &mut Desk) -> Ended
+    requires { Runnable script.now out.old limit desk.old.items.now }
+    ensures does { Ends (state_of desk.old) (state_of desk.new) limit script.now out.old out.new result }
+    ensures same { SameTables desk.old desk.new }
 {
     let mut at: usize = 0;
     let mut to: usize = 0;
     while at < script.len() {
         let end = line_end(script, at);
-        let reply = answer_line(
-            script, at, end, weights, heads, registers, links, ends, n, m, items, sources, targets,
-        );
-        let Written::Upto(stop) = answer(out, to, limit, reply, items) else {
+        let reply = answer_line(&script[at..end], desk);
+        let Some(stop) = answer(out, to, limit, reply, &mut *desk.items) else {
             return Ended {
-                number: Refusal::Short.number(),
+                stopped: Some(Refusal::Short),
                 bytes: to,
             };
         };
@@ -57,7 +52,7 @@ pub fn run_lines(
         at = end + 1;
     }
     Ended {
-        number: 0,
+        stopped: None,
         bytes: to,
     }
 }
@@ -66,10 +61,7 @@ pub fn run_lines(
 pub fn limit_of(room: usize) -> usize
     ensures { result ≡ min room most_bytes }
 {
-    if room < MOST_BYTES {
-        return room;
-    }
-    MOST_BYTES
+    room.min(MOST_BYTES)
 }
 
 // The answer number times 2^32, plus the bytes written.

@@ -10,8 +10,8 @@ returns-then-script-gt-MOST_BYTES c =
 
 pub pack-requires-2 : goal.pack-requires-2
 unfolding begun
-pack-requires-2 c = omega (arith, few_bytes _ c.limit_of-limit.ensures c.run_lines-ended.ensures)
+pack-requires-2 c = omega (arith, few_bytes _ c.limit_of-limit.ensures c.run_lines-ended.ensures.does)
 
 pub returns : goal.returns
 unfolding begun
-returns c = packed_so _ c.limit_of-limit.ensures c.run_lines-ended.ensures c.if-script-gt-MOST_BYTES.false c.pack-2.ensures
+returns c = packed_so _ c.limit_of-limit.ensures c.run_lines-ended.ensures.does c.if-script-gt-MOST_BYTES.false (omega (arith, c.pack-2.ensures, c.number-2.ensures))
