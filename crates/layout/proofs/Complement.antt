@@ -3,7 +3,7 @@ use Prim.Native.Nat.{ℕ, suc, ◌-◌, ◌^◌, ◌<◌}
 use mathlib.Core.Path.{◌≡◌, refl}
 use mathlib.Core.Bool.{Bool, true, false, cond}
 use native.Mathlib.Omega.{arith}
-use borrow.Author.Tests.{le-ltb, lt-ltb, ltb-true, ltb-false}
+use borrow.Author.Tests.{le-ltb, lt-ltb}
 use lib.Dec.{ltb}
 use lib.IntN.{ℤ, pos, negsuc}
 use lib.Signed.{mag}
@@ -31,14 +31,6 @@ bits-signed x h = go (ltb x 2147483648)
     go : (t : Bool) → bits (cond t (pos x) (negsuc (4294967296 - suc x))) ≡ x
     go true = refl
     go false = omega arith
-
-pub signed-fits : (x : ℕ) → x < 2 ^ 32 → mag (signed x) < 2 ^ 31
-unfolding signed
-signed-fits x h = go (ltb x 2147483648) refl
-  where
-    go : (t : Bool) → ltb x 2147483648 ≡ t → mag (cond t (pos x) (negsuc (4294967296 - suc x))) < 2 ^ 31
-    go true e = ltb-true x 2147483648 e
-    go false e = omega (arith, ltb-false x 2147483648 e)
 
 -- std's casts are these
 pub cast_bits : (z : ℤ) → of_z w32 z ≡ bits z
