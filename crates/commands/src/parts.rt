@@ -16,7 +16,7 @@ use reply::{Reply, Value};
 use sound::Fault;
 
 // What a served call answers, as the reply of its command.
-pub trait ToReply {
+pub trait ToReply: Copy {
     ghost served: { ℕ → Self → Reply };
 
     fn to_reply(self, letter: u8) -> Reply

@@ -1,17 +1,23 @@
 -- What stays on a desk; and the letters by what their commands do: the parts of the dispatch ask which theirs is not.
+use Rattle.std.specs.Borrow.{MutBor}
 use Rattle.std.specs.Prelude.{ℕ, ◌≡◌}
 use Rattle.dispatch.specs.declared.Desk.{Desk}
 
+-- a reference to the same table: the same borrow, at the same place
+pub record SameTable {A : Type 0} (before after : MutBor A) : Type 0 where
+  pub name : before.ghost_name ≡ after.ghost_name
+  pub place : before.ref_ptr ≡ after.ref_ptr
+
 -- two moments of a desk: the same columns and tables lie on it, whatever they hold
 pub record SameTables (before after : Desk) : Type 0 where
-  pub weights_stay : before.weights.ghost_name ≡ after.weights.ghost_name
-  pub heads_stay : before.heads.ghost_name ≡ after.heads.ghost_name
-  pub registers_stay : before.registers.ghost_name ≡ after.registers.ghost_name
-  pub links_stay : before.links.ghost_name ≡ after.links.ghost_name
-  pub ends_stay : before.ends.ghost_name ≡ after.ends.ghost_name
-  pub items_stay : before.items.ghost_name ≡ after.items.ghost_name
-  pub sources_stay : before.sources.ghost_name ≡ after.sources.ghost_name
-  pub targets_stay : before.targets.ghost_name ≡ after.targets.ghost_name
+  pub weights_stay : SameTable before.weights after.weights
+  pub heads_stay : SameTable before.heads after.heads
+  pub registers_stay : SameTable before.registers after.registers
+  pub links_stay : SameTable before.links after.links
+  pub ends_stay : SameTable before.ends after.ends
+  pub items_stay : SameTable before.items after.items
+  pub sources_stay : SameTable before.sources after.sources
+  pub targets_stay : SameTable before.targets after.targets
 
 -- no command that adds
 pub record NotAdding (letter : ℕ) : Type 0 where

@@ -7,6 +7,7 @@ use native.Mathlib.Omega.{arith}
 use borrow.Author.Tests.{le-leb, lt-leb}
 use lib.ListN.{length, take, drop, length-append}
 use lib.Seq.{slice}
+use denote.MutBor.{MutBor}
 use Rattle.index.specs.declared.Refusal.TheVariants.{Short}
 use Rattle.index.specs.Refusals.{refusal_no}
 use Rattle.tables.specs.Answers.{onto}
@@ -22,7 +23,7 @@ use Rattle.reply.specs.Parts.{answered}
 use Rattle.reply.proofs.Fitting.{written, untouched}
 use Rattle.commands.specs.Commands.{Replied, replied}
 use Rattle.dispatch.specs.declared.Desk.{Desk}
-use Rattle.dispatch.specs.Parts.{SameTables}
+use Rattle.dispatch.specs.Parts.{SameTable, SameTables}
 use Rattle.dispatch.specs.Step.{State}
 use Rattle.obeying.proofs.Sizes.{line_sizes}
 use Rattle.script.specs.declared.parts.Ended.{Ended}
@@ -67,17 +68,20 @@ module _ (limit at : ℕ) (s : State) where
     unfolding state_left
     left-stop h = rw (lt-leb (at + length (text_of o)) limit h)
 
+same_table : {A : Type 0} {a b c : MutBor A} → SameTable a b → SameTable b c → SameTable a c
+same_table p q = record { name = p.name ∙ q.name; place = p.place ∙ q.place }
+
 -- what stays on a desk, call after call
 pub same_on : {a b c : Desk} → SameTables a b → SameTables b c → SameTables a c
 same_on p q = record {
-  weights_stay = p.weights_stay ∙ q.weights_stay;
-  heads_stay = p.heads_stay ∙ q.heads_stay;
-  registers_stay = p.registers_stay ∙ q.registers_stay;
-  links_stay = p.links_stay ∙ q.links_stay;
-  ends_stay = p.ends_stay ∙ q.ends_stay;
-  items_stay = p.items_stay ∙ q.items_stay;
-  sources_stay = p.sources_stay ∙ q.sources_stay;
-  targets_stay = p.targets_stay ∙ q.targets_stay;
+  weights_stay = same_table p.weights_stay q.weights_stay;
+  heads_stay = same_table p.heads_stay q.heads_stay;
+  registers_stay = same_table p.registers_stay q.registers_stay;
+  links_stay = same_table p.links_stay q.links_stay;
+  ends_stay = same_table p.ends_stay q.ends_stay;
+  items_stay = same_table p.items_stay q.items_stay;
+  sources_stay = same_table p.sources_stay q.sources_stay;
+  targets_stay = same_table p.targets_stay q.targets_stay;
 }
 
 -- a line leaves as many items as it finds room for
