@@ -87,6 +87,11 @@ module _ (g : Net) (a : ℕ) (C : Closable g a) where
   pub count_is : (v : Option Settled) (x : Settled) → v ≡ both g a → v ≡ Some x → x.count ≡ length (around g Weight a)
   count_is v x p z = ap (λ (y : Settled). y.count) (same_Some _ _ (sym z ∙ p ∙ both_are))
 
+  -- the same as the code counts
+  pub counted_so : {v : Option Settled} {p q : Leg} {x : Settled} → p ≡ leg_at g.heads 0 Every a → q ≡ leg_at g.heads 1 (NotTo (record { 0 = a })) a
+      → v ≡ settled g.links g.ends g.m p q → v ≡ Some x → x.count ≡ length (around g Weight a)
+  counted_so {v} {p} {q} {x} h k z e = count_is v x (both-settled g a h k z) e
+
   pub enough : (count items : ℕ) → count ≡ length (around g Weight a) → count ≤ items → length (stripped g a).given ≤ items
   enough count items c l = omega (arith, c, ap length (given_are g C.lists a C.fit C.sound C.node))
 

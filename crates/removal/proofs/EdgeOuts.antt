@@ -217,8 +217,8 @@ edge-out g ls e f S lt = rw (f, lt-ltb e g.m lt) (taken_out_lem g ls e f S lt)
 -- what the searches come to, found or lost
 pub by_place : (P : Gone → Type 0) (w : Option Located) (found : Spot → Spot → ℕ → Gone) (lost : Gone) → ((s t : Spot) (rows : ℕ) → P (found s t rows)) → P lost
     → P (on_place w found lost)
-by_place P (Some place) found lost p q = p place.outgoing place.incoming place.rows
-by_place P None found lost p q = q
+by_place P (Some place) _ _ p q = p place.outgoing place.incoming place.rows
+by_place P None _ _ p q = q
 
 pub edge-refused : (g : Net) (e : ℕ) → ((remove_edge g e).answer.number ≡ 0 → ⊥) → (remove_edge g e).after ≡ g
 unfolding remove_edge taken_out gone last_moved

@@ -9,6 +9,7 @@ use tables::parts::{EDGE_CELLS, NODE_CELLS};
 
 // Node a's list in direction k, with `read` rows of that direction read before it: the rows read then, or a, where it has a fault.
 // The count runs on through all lists of a direction: sound lists have m rows together, so after m rows there is nothing but `END`.
+// A `for` over the rows would be no plainer: it ends where the list does or where the rows do, and each end has the test for `END`.
 pub fn walk_list(
     heads: &[u32],
     links: &[u32],

@@ -1,7 +1,7 @@
 -- One turn of the stripping: the head of node a's list of direction k is taken out.
 use Prim.Native.Nat.{ℕ, zero, suc, ◌+◌, ◌*◌, ◌-◌, ◌≤◌, ◌<◌}
 use mathlib.Core.Path.{◌≡◌, refl, sym, ap, ◌∙◌, subst}
-use mathlib.Core.Bool.{true, false}
+use mathlib.Core.Bool.{Bool, true, false}
 use mathlib.Core.List.{List, [], ◌∷◌, ◌++◌, append_assoc, append-nil}
 use native.Mathlib.Nat.{not-suc-le-zero, le_of_suc-le-suc}
 use native.Mathlib.Numerals.{add-one}
@@ -32,6 +32,11 @@ use Rattle.stripping.proofs.Turns.{emptied-on, head-out}
 -- the head as the code reads it: the node's number, and the direction's
 pub head-is : (H L : List ℕ) {i j x a k : ℕ} → i ≡ a → j ≡ x → x ≡ k → get_or H (node_cell i j) 0 ≡ link_in H L k (Head a)
 head-is H L p q r = rw (p, q, r)
+
+-- a head read, and found to be no end
+pub head-goes : (H L : List ℕ) {i j x a k : ℕ} {r : Bool} → i ≡ a → j ≡ x → x ≡ k → r ≡ is_end (get_or H (node_cell i j) 0) → r ≡ false
+    → is_end (link_in H L k (Head a)) ≡ false
+head-goes H L p q r e h = ap is_end (sym (head-is H L p q r)) ∙ sym e ∙ h
 
 pub number_of-all : (k : ℕ) → k < 2 → number_of (get_or (Outgoing ∷ Incoming ∷ []) k Outgoing) ≡ k
 number_of-all zero h = refl

@@ -1,7 +1,7 @@
 -- The two lists are settled, and their edges counted.
 use Rattle.std.proofs.Common.{◌≡◌, Some, None, arith}
 use Rattle.tables.specs.Net.{net}
-use Rattle.closing.proofs.Closes.{fit_of_lem, both-settled, not_broken, count_is, enough, too_short, long_enough}
+use Rattle.closing.proofs.Closes.{fit_of_lem, both-settled, not_broken, counted_so, enough, too_short, long_enough}
 use Rattle.closing.proofs.parts.close.Goals as goal
 
 pub along-first-requires : goal.along-first-requires
@@ -32,24 +32,17 @@ returns-in_err-both c =
 
 pub returns-then-items-both : goal.returns-then-items-both
 returns-then-items-both c =
-    let a = c.args in
-    let g = net a.weights.now a.heads.now a.registers.now a.links.now a.ends.now a.n.now a.m.now in
-    let s = both-settled g a.a.0 c.along-first.ensures c.along-second.ensures c.settle.ensures in
     let found : c.settle.result ≡ Some c.in_ok-both.both = grind arith in
-    too_short _ _ c.requires _ _ (count_is _ _ c.requires _ _ s found) c.if-items-both.true
+    too_short _ _ c.requires _ _ (counted_so _ _ c.requires c.along-first.ensures c.along-second.ensures c.settle.ensures found) c.if-items-both.true
 
 pub take_node-requires : goal.take_node-requires
 take_node-requires c =
-    let a = c.args in
-    let g = net a.weights.now a.heads.now a.registers.now a.links.now a.ends.now a.n.now a.m.now in
-    let s = both-settled g a.a.0 c.along-first.ensures c.along-second.ensures c.settle.ensures in
     let found : c.settle.result ≡ Some c.in_ok-both.both = grind arith in
-    record { closable = c.requires; room = enough _ _ c.requires _ _ (count_is _ _ c.requires _ _ s found) c.if-items-both.false }
+    let n = counted_so _ _ c.requires c.along-first.ensures c.along-second.ensures c.settle.ensures found in
+    record { closable = c.requires; room = enough _ _ c.requires _ _ n c.if-items-both.false }
 
 pub returns : goal.returns
 returns c =
-    let a = c.args in
-    let g = net a.weights.now a.heads.now a.registers.now a.links.now a.ends.now a.n.now a.m.now in
-    let s = both-settled g a.a.0 c.along-first.ensures c.along-second.ensures c.settle.ensures in
     let found : c.settle.result ≡ Some c.in_ok-both.both = grind arith in
-    long_enough _ _ c.requires _ _ _ (count_is _ _ c.requires _ _ s found) c.if-items-both.false c.take_node.ensures
+    let n = counted_so _ _ c.requires c.along-first.ensures c.along-second.ensures c.settle.ensures found in
+    long_enough _ _ c.requires _ _ _ n c.if-items-both.false c.take_node.ensures
