@@ -14,7 +14,7 @@ use removal::RemovedEdge;
 use tables::Network;
 
 // The edge that bears register number r, by its entry alone; a wrong entry is not followed.
-#[tactic(auto, using(tables::proofs::Guards::guards, tables::proofs::Laws::fitting), unfolding(crate::specs::Numbers::find_number))]
+#[tactic(auto, using(tables::proofs::Guards::guards, tables::proofs::Laws::fitting, directory::proofs::Every::fronting), unfolding(crate::specs::Numbers::find_number))]
 pub fn find_number(net: Network, directory: &[u32], r: u32) -> Result<EdgeIndex, Refusal>
     ensures { told_edge result ≡ find_number (filed (net_of net.entry) directory.now) r }
 {
@@ -28,7 +28,7 @@ pub fn find_number(net: Network, directory: &[u32], r: u32) -> Result<EdgeIndex,
     if e.is_end() {
         return Err(Refusal::Nothing);
     }
-    if !bears(net.registers, net.m, e, r as usize) {
+    if !bears(&net.registers[..net.m as usize], e, r as usize) {
         return Err(Refusal::Broken);
     }
     Ok(e)

@@ -1,22 +1,23 @@
 -- What a test of all numbers below another says, `every-says`, `every_so`; a directory is right exactly where its test passes: `right_says`, `right_so`.
 use Prim.Native.Nat.{ℕ, zero, suc, ◌+◌, ◌≤◌, ◌<◌}
 use mathlib.Core.Path.{◌≡◌, refl, sym, ap, ◌∙◌}
-use mathlib.Core.Bool.{Bool, true, false, ◌&&◌}
+use mathlib.Core.Bool.{Bool, true, false, ◌&&◌, ◌||◌}
 use mathlib.Core.List.{List}
 use native.Mathlib.Nat.{not-suc-le-zero, zero-add}
 use native.Mathlib.Numerals.{add-one}
-use native.Mathlib.Decide.{ℕ_discrete}
+use native.Mathlib.Decide.{ℕ_discrete, dec_lt}
 use native.Mathlib.Omega.{arith}
-use borrow.Author.Tests.{eq-eqb, ne_eqb, lt-ltb, eqb-true, ltb-true}
+use borrow.Author.Tests.{eq-eqb, ne_eqb, lt-ltb, le-ltb, eqb-true, ltb-true}
 use lib.Dec.{eqb, ltb}
 use lib.ListN.{length, get_or, take}
-use Rattle.std.specs.List.{list_all, range_with_len, enumerate_from}
+use Rattle.std.specs.List.{list_all, enumerate_from}
 use lib.Seq.{take-length}
 use Rattle.std.proofs.lemmas.List.Folds.{list_all_more}
-use Rattle.std.proofs.lemmas.List.FromFn.{length-range_with_len, get_or-range_with_len, length-enumerate_from, get_or-enumerate_from}
-use Rattle.index.specs.Index.{END}
+use Rattle.std.proofs.lemmas.List.FromFn.{length-enumerate_from, get_or-enumerate_from}
+use Rattle.std.proofs.lemmas.List.{get_or-take, length-take-le}
+use Rattle.index.specs.Index.{END, is_end}
 use Rattle.tables.proofs.Laws.{both}
-use Rattle.directory.specs.Directory.{entry, Right, every, row_named, bears, stands, entry_stands, rows_named, entries_stand, is_right}
+use Rattle.directory.specs.Directory.{entry, Right, every, row_named, bears, stands, entry_stands, rows_named, entries_stand, is_right, register_in}
 use Rattle.directory.proofs.Laws.{inside}
 
 and_false : (a b : Bool) → b ≡ false → (a && b) ≡ false
@@ -103,17 +104,62 @@ all_listed : {X : Type 0} (p : X → Bool) (test : ℕ → Bool) (xs : List X) (
 all_listed p test xs d n q s =
     rw (← q) (ap (list_all p) (sym (take-length xs)) ∙ every_listed p test xs d s (length xs) (omega arith))
 
+-- an element with its index
+numbered : (xs : List ℕ) (x k : ℕ) → k < length xs → get_or (enumerate_from 0 xs) k (0, x) ≡ (k, get_or xs k x)
+numbered xs x k h = get_or-enumerate_from 0 xs k (0, x) h ∙ ap (λ (i : ℕ). (i, get_or xs k x)) (zero-add k)
+
 -- the tests of all rows and of all entries, as the iterators come to them
-module _ (number : ℕ → ℕ) (m : ℕ) (d : List ℕ) where
-  pub rows_listed : list_all (row_named number d) (range_with_len 0 m) ≡ rows_named number m d
+module _ (numbers d : List ℕ) where
+  pub rows_listed : list_all (λ (p : ℕ × ℕ). eqb (entry d p.1) p.0) (enumerate_from 0 numbers) ≡ rows_named (register_in numbers) (length numbers) d
   unfolding rows_named
   rows_listed =
-      all_listed (row_named number d) (row_named number d) (range_with_len 0 m) 0 m (length-range_with_len 0 m) (λ k h.
-      ap (row_named number d) (get_or-range_with_len 0 m k 0 (omega (arith, length-range_with_len 0 m)) ∙ zero-add k))
+      all_listed (λ (p : ℕ × ℕ). eqb (entry d p.1) p.0) (row_named (register_in numbers) d) (enumerate_from 0 numbers) (0, 0) (length numbers)
+      (length-enumerate_from 0 numbers)
+      (λ k h. ap (λ (p : ℕ × ℕ). eqb (entry d p.1) p.0) (numbered numbers 0 k (omega (arith, length-enumerate_from 0 numbers))))
 
-  pub entries_listed : list_all (λ p. stands number m p.1 p.0) (enumerate_from 0 d) ≡ entries_stand number m d
+  pub entries_listed : list_all (λ (p : ℕ × ℕ). stands (register_in numbers) (length numbers) p.1 p.0) (enumerate_from 0 d)
+      ≡ entries_stand (register_in numbers) (length numbers) d
   unfolding entries_stand
   entries_listed =
-      all_listed (λ (p : ℕ × ℕ). stands number m p.1 p.0) (entry_stands number m d) (enumerate_from 0 d) (0, END) (length d) (length-enumerate_from 0 d)
-      (λ k h. ap (λ (p : ℕ × ℕ). stands number m p.1 p.0)
-      (get_or-enumerate_from 0 d k (0, END) (omega (arith, length-enumerate_from 0 d)) ∙ ap (λ (x : ℕ). (x, entry d k)) (zero-add k)))
+      let test : ℕ × ℕ → Bool = λ p. stands (register_in numbers) (length numbers) p.1 p.0 in
+      all_listed test (entry_stands (register_in numbers) (length numbers) d) (enumerate_from 0 d) (0, END) (length d) (length-enumerate_from 0 d)
+      (λ k h. ap test (numbered d END k (omega (arith, length-enumerate_from 0 d))))
+
+-- two numberings that agree on the rows in use
+every_same : (p q : ℕ → Bool) (n : ℕ) → ((x : ℕ) → x < n → p x ≡ q x) → every p n ≡ every q n
+unfolding every
+every_same p q zero s = refl
+every_same p q (suc n) s = rw (every_same p q n (λ x h. s x (omega arith)), s n (omega arith))
+
+module _ (f g : ℕ → ℕ) (m : ℕ) (s : (x : ℕ) → x < m → f x ≡ g x) where
+  pub bears_same : (x r : ℕ) → bears f m x r ≡ bears g m x r
+  bears_same x r =
+      elim (dec_lt x m) [
+        | yes h ↦ rw (lt-ltb x m h, s x h)
+        | no h ↦ rw (le-ltb x m (omega arith))
+      ]
+
+  pub right_same : (d : List ℕ) → is_right f m d ≡ is_right g m d
+  unfolding is_right rows_named entries_stand
+  right_same d =
+      rw (
+        every_same (row_named f d) (row_named g d) m (λ e h. ap (λ r. eqb (entry d r) e) (s e h)),
+        every_same (entry_stands f m d) (entry_stands g m d) (length d) (λ r h. ap (λ b. is_end (entry d r) || b) (bears_same (entry d r) r)),
+      )
+
+-- the numbers of the rows in use stand at the front of their column
+module _ (registers : List ℕ) (m : ℕ) (h : m ≤ length registers) where
+  in_front : (x : ℕ) → x < m → register_in (take m registers) x ≡ register_in registers x
+  in_front x l = get_or-take m registers x 0 l
+
+  pub front_long : m ≡ length (take m registers)
+  front_long = sym (length-take-le m registers h)
+
+  pub bears_front : (x r : ℕ) → bears (register_in (take m registers)) (length (take m registers)) x r ≡ bears (register_in registers) m x r
+  bears_front x r = rw (length-take-le m registers h) (bears_same (register_in (take m registers)) (register_in registers) m in_front x r)
+
+  pub right_front : (d : List ℕ) → is_right (register_in (take m registers)) (length (take m registers)) d ≡ is_right (register_in registers) m d
+  right_front d = rw (length-take-le m registers h) (right_same (register_in (take m registers)) (register_in registers) m in_front d)
+
+-- what a lookup among the numbers of the rows in use comes to
+pub ruleset fronting = (front_long, bears_front, right_front)

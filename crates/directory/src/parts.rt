@@ -1,5 +1,5 @@
 // What the calls with a directory are made of, beside the base's parts. A directory may have any length, so a part that reads or sets an entry asks nothing.
-ghost use Rattle.std.specs.Prelude.{◌≤◌, ◌<◌, ◌≡◌, length, set};
+ghost use Rattle.std.specs.Prelude.{◌<◌, ◌≡◌, length, set};
 ghost use Rattle.directory.specs.Directory.{register_in, entry, bears, stands, row_named, rows_named, entries_stand, is_right, followed};
 
 use index::EdgeIndex;
@@ -31,51 +31,50 @@ pub fn named(registers: &[u32], directory: &[u32], e: EdgeIndex) -> bool
     entry(directory, registers[e.index()]) == e
 }
 
-// Each row's entry names it.
-pub fn rows_named(registers: &[u32], m: u32, directory: &[u32]) -> bool
-    requires { m ≤ length registers.now }
-    ensures { result ≡ rows_named (register_in registers.now) m directory.now }
+// Each row's entry names it. The numbers are those of the rows in use, in row order, here and below.
+pub fn rows_named(numbers: &[u32], directory: &[u32]) -> bool
+    ensures { result ≡ rows_named (register_in numbers.now) (length numbers.now) directory.now }
 {
-    (0..m).all(|e| named(registers, directory, EdgeIndex(e)))
+    numbers
+        .iter()
+        .enumerate()
+        .all(|(e, &r)| entry(directory, r).index() == e)
 }
 
 // Row x is in use, and bears number r.
-pub fn bears(registers: &[u32], m: u32, x: EdgeIndex, r: usize) -> bool
-    requires { m ≤ length registers.now }
-    ensures { result ≡ bears (register_in registers.now) m x.0 r }
+pub fn bears(numbers: &[u32], x: EdgeIndex, r: usize) -> bool
+    ensures { result ≡ bears (register_in numbers.now) (length numbers.now) x.0 r }
 {
-    x.0 < m && registers[x.index()] as usize == r
+    x.index() < numbers.len() && numbers[x.index()] as usize == r
 }
 
 // An entry of number r that is none, or names a row that bears it.
-pub fn stands(registers: &[u32], m: u32, x: EdgeIndex, r: usize) -> bool
-    requires { m ≤ length registers.now }
-    ensures { result ≡ stands (register_in registers.now) m x.0 r }
+pub fn stands(numbers: &[u32], x: EdgeIndex, r: usize) -> bool
+    ensures { result ≡ stands (register_in numbers.now) (length numbers.now) x.0 r }
 {
-    x.is_end() || bears(registers, m, x, r)
+    x.is_end() || bears(numbers, x, r)
 }
 
 // Each entry is none, or names a row that bears its number.
-pub fn entries_stand(registers: &[u32], m: u32, directory: &[u32]) -> bool
-    requires { m ≤ length registers.now }
-    ensures { result ≡ entries_stand (register_in registers.now) m directory.now }
+pub fn entries_stand(numbers: &[u32], directory: &[u32]) -> bool
+    ensures { result ≡ entries_stand (register_in numbers.now) (length numbers.now) directory.now }
 {
     directory
         .iter()
         .enumerate()
-        .all(|(r, &x)| stands(registers, m, EdgeIndex(x), r))
+        .all(|(r, &x)| stands(numbers, EdgeIndex(x), r))
 }
 
 // The directory is right for these rows.
 #[tactic(auto, unfolding(crate::specs::Directory::is_right))]
-pub fn is_right(registers: &[u32], m: u32, directory: &[u32]) -> bool
-    requires { m ≤ length registers.now }
-    ensures { result ≡ is_right (register_in registers.now) m directory.now }
+pub fn is_right(numbers: &[u32], directory: &[u32]) -> bool
+    ensures { result ≡ is_right (register_in numbers.now) (length numbers.now) directory.now }
 {
-    rows_named(registers, m, directory) && entries_stand(registers, m, directory)
+    rows_named(numbers, directory) && entries_stand(numbers, directory)
 }
 
 // The edge of row e, which bore number w, is out, and m rows are left: w stands in none, and the row that is e now, if one is, has its entry there.
+// The column and m stay apart: m is the number, too, that the row which moved had (the edit moved_row_not_renamed).
 #[tactic(auto, unfolding(crate::specs::Directory::followed))]
 pub fn follow(directory: &mut [u32], registers: &[u32], m: u32, w: u32, e: EdgeIndex)
     requires { e.0 < length registers.now }

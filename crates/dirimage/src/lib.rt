@@ -15,14 +15,14 @@ use tables::Network;
 pub mod parts;
 
 // The network's image at the front of `bytes`; its length. A directory that is not right is refused as broken links are.
-#[tactic(auto, using(tables::proofs::Guards::guards, tables::proofs::Laws::fitting), unfolding(crate::specs::Calls::image_write_filed))]
+#[tactic(auto, using(tables::proofs::Guards::guards, tables::proofs::Laws::fitting, directory::proofs::Every::fronting), unfolding(crate::specs::Calls::image_write_filed))]
 pub fn image_write(net: Network, directory: &[u32], bytes: &mut [u8]) -> Result<u32, Refusal>
     ensures { out (told_items result) bytes.new ≡ image_write_filed (filed (net_of net.entry) directory.now) bytes.old }
 {
     if !net.fits() {
         return Err(Refusal::Tables);
     }
-    if !is_right(net.registers, net.m, directory) {
+    if !is_right(&net.registers[..net.m as usize], directory) {
         return Err(Refusal::Broken);
     }
     image::image_write(net, bytes)

@@ -16,7 +16,7 @@ pub fn check(net: Network, directory: &[u32]) -> Result<u32, Fault>
     ensures { result ≡ checked_filed (filed (net_of net.entry) directory.now) }
 {
     let rows = sound::check(net)?;
-    if !is_right(net.registers, net.m, directory) {
+    if !is_right(&net.registers[..net.m as usize], directory) {
         return Err(Fault::At(EdgeDirection::Incoming, NodeIndex(net.n + 1)));
     }
     Ok(rows)
