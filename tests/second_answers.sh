@@ -15,9 +15,20 @@ functions() {
         place=${file#"crates/$crate/src/"} place=${place%.rt} place=${place//\//.}
         [ "$place" = lib ] && place=$crate || place=$crate.$place
         awk -v place="$place" '
-            /^impl / { type = "." $2 }
-            /^}/ { type = "" }
-            match($0, /^ *pub (extern "C" )?fn [a-z0-9_]+/) {
+            # of an impl of a type what is pub; of `impl From<usize> for EdgeDirection` all, as EdgeDirectionFromUsize
+            function plain(word) { sub(/^\(\)$/, "Unit", word); gsub(/[^A-Za-z0-9_]/, "", word); return toupper(substr(word, 1, 1)) substr(word, 2) }
+            function pair(word,  both) { return split(word, both, ", ") == 2 ? "Tuple2" plain(both[1]) plain(both[2]) : plain(word) }
+            /^impl/ {
+                line = $0
+                sub(/^impl(<[^>]*>)? /, "", line)
+                sub(/ *\{.*$/, "", line)
+                all = split(line, sides, " for ") == 2
+                split(all ? sides[2] : sides[1], words, "<")
+                type = "." (all ? pair(sides[2]) : words[1])
+                if (all) { parts = split(sides[1], words, /[<>, ]+/); for (i = 1; i <= parts; i++) type = type plain(words[i]) }
+            }
+            /^}/ { type = ""; all = 0 }
+            match($0, /^ *pub (extern "C" )?fn [a-z0-9_]+/) || (all && match($0, /^ *fn [a-z0-9_]+/)) {
                 name = substr($0, RSTART, RLENGTH)
                 sub(/.* /, "", name)
                 print place type "." name
@@ -27,7 +38,8 @@ functions() {
 
 # the function of each line of the list; a line that names two, or takes less than every input where it is no part, is told whole.
 listed() {
-    sed -nE 's/^pub [^ ]+ : (Settles(All)? .*)$/\1/p' crates/demands/proofs/Settled*.antt | awk '
+    sed -nE 's/^ *pub [^ ]+ : (.* → )?(Settles(All)? .*)$/\2/; T; s/\(([^ ()]+\.ended) [^()]*\)/\1/; s/\(([^ ()]+\.Reads\.Post) .*\)$/\1/; p' \
+        crates/demands/proofs/Settled*.antt | awk '
         {
             contract = $2
             sub(/\.ended$/, "", contract)

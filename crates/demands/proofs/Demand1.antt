@@ -11,6 +11,7 @@ use native.Mathlib.Omega.{arith}
 use borrow.Author.Tests.{eqb-true, leb-true, le-leb, lt-leb}
 use lib.Dec.{eqb, ltb, leb}
 use lib.ListN.{length, get_or, take, length-append}
+use Rattle.std.proofs.Common.{Option, None, Some, Ok, Err}
 use Rattle.index.specs.declared.EdgeDirection.{EdgeDirection}
 use Rattle.index.specs.declared.EdgeDirection.TheVariants.{Outgoing, Incoming}
 use Rattle.index.specs.declared.Refusal.TheVariants.{Tables, Broken}
@@ -27,19 +28,15 @@ use Rattle.lists.specs.declared.Item.TheVariants.{Number, Far, Weight}
 use Rattle.lists.specs.Walk.{taken_from, stop_from, picks, broken, around}
 use Rattle.legs.specs.Legs.{room_for}
 use Rattle.walks.specs.Walks.{walked, neighbors, edge_weights, edges_between, edges_mut, edges}
-use Rattle.find.specs.declared.Sought.{Sought}
-use Rattle.find.specs.declared.Sought.TheVariants.{Row, Missing, Endless}
+use Rattle.find.specs.Parts.{Sought}
 use Rattle.find.specs.Find.{sought, on, find_edge, contains_edge, update_edge}
 use Rattle.walker.specs.declared.Walker.{Walker}
 use Rattle.walker.specs.Steps.{begin, incoming_step, step}
 use Rattle.walker.specs.Sums.{present, sum_around}
-use Rattle.sound.specs.declared.Walked.{Walked}
-use Rattle.sound.specs.declared.Walked.TheVariants.{Read, FaultAt}
-use Rattle.sound.specs.declared.Checked.TheVariants as Checked·
-use Rattle.sound.specs.Check.{way, verdict, checked, is_sound, told_checked}
+use Rattle.sound.specs.declared.Fault.TheVariants.{Refused}
+use Rattle.sound.specs.Check.{Walked, way, verdict, checked, is_sound, told_checked}
 use Rattle.sound.proofs.Literal.{right, only}
 use Rattle.links.specs.declared.Located.{Located}
-use Rattle.links.specs.declared.Located.TheVariants as Located·
 use Rattle.removal.specs.Removal.{Gone, on_place, place_of, bypassed, last_moved, gone, taken_out, remove_edge}
 use Rattle.closing.specs.Closing.{closed_if_room, remove_node}
 use Rattle.closing.proofs.NodeOuts as NodeOuts
@@ -102,9 +99,9 @@ walking g a table given p =
 seeking : {X : Type 0} {number : X → ℕ} {numbers : List ℕ} {refusal : ℕ → X} (s : Sought) (found : ℕ → X) (missing endless : X)
     → ((e : ℕ) → number (found e) ≡ 0) → ServedOr number numbers refusal missing → ServedOr number numbers refusal endless
     → ServedOr number numbers refusal (on s found missing endless)
-seeking (Row e k) found missing endless p q r = served (p e.0)
-seeking Missing found missing endless p q r = q
-seeking Endless found missing endless p q r = r
+seeking (Ok (Some row)) found missing endless p q r = served (p row.0.0)
+seeking (Ok None) found missing endless p q r = q
+seeking (Err why) found missing endless p q r = r
 
 -- a step along the incoming list
 incoming_step_lem : (g : Net) (w : Walker) (xs : List ℕ)
@@ -114,18 +111,18 @@ incoming_step_lem g w [] = passes_or (ltb (stop_from g.links g.m 1 w.incoming.0)
 
 -- what the check tells
 checked-told : (b : Bool) (w v : Walked)
-    → let told = told_checked (unless b (Checked·.Refused Tables) (verdict w v)) in
+    → let told = told_checked (unless b (Err (Refused Tables)) (verdict w v)) in
     Tells (1 ∷ []) (0, 0, 0) told ⊎ ((d : EdgeDirection) × (a : ℕ) × (told ≡ refused Broken (0, number_of d, a)))
 checked-told false w v = inl (by_number 1 refl)
-checked-told true (FaultAt a) v = inr (Outgoing, a, refl)
-checked-told true (Read q) (FaultAt a) = inr (Incoming, a, refl)
-checked-told true (Read q) (Read r) = inl (served refl)
+checked-told true (Err a) v = inr (Outgoing, a.0, refl)
+checked-told true (Ok q) (Err a) = inr (Incoming, a.0, refl)
+checked-told true (Ok q) (Ok r) = inl (served refl)
 
 -- what the searches for an edge come to
-locating : {g : Net} {numbers : List ℕ} (place : Located) (found : Spot → Spot → ℕ → Gone) → among 6 numbers ≡ true
+locating : {g : Net} {numbers : List ℕ} (place : Option Located) (found : Spot → Spot → ℕ → Gone) → among 6 numbers ≡ true
     → ((s t : Spot) (rows : ℕ) → Refuses numbers (0, 0, 0) g (found s t rows)) → Refuses numbers (0, 0, 0) g (on_place place found (out (refused Broken (0, 0, 0)) g))
-locating (Located·.At s t rows) found h p = p s t rows
-locating Located·.Lost found h p = by_number 6 h
+locating (Some place) found h p = p place.outgoing place.incoming place.rows
+locating None found h p = by_number 6 h
 
 -- an edge that is in use is taken out, or 6
 pub taking_out : {numbers : List ℕ} (g : Net) (e : ℕ) → among 6 numbers ≡ true → Refuses numbers (0, 0, 0) g (taken_out g e)

@@ -20,9 +20,9 @@ use Rattle.tables.specs.Answers.{Told, Out, refused}
 use Rattle.tables.proofs.Laws.{both, tested}
 use Rattle.lists.specs.Chain.{In}
 use Rattle.find.specs.Find.{update_edge}
-use Rattle.sound.specs.declared.Checked.{Checked}
-use Rattle.sound.specs.declared.Checked.TheVariants as Checked·
-use Rattle.sound.specs.Check.{checked, told_checked}
+use Rattle.std.proofs.Common.{Ok, Err}
+use Rattle.sound.specs.declared.Fault.TheVariants.{At, Refused}
+use Rattle.sound.specs.Check.{Checked, checked, told_checked}
 use Rattle.sound.proofs.Exactly.{small}
 use Rattle.removal.specs.Removal.{taken_out, remove_edge}
 use Rattle.closing.specs.Closing.{Closed, remove_node}
@@ -84,10 +84,10 @@ checked-told : (c : Checked) (right : Bool) (n : ℕ)
     → Tells (1 ∷ []) (0, 0, 0) (told_checked c) ⊎ ((d : EdgeDirection) × (a : ℕ) × (told_checked c ≡ refused Broken (0, number_of d, a)))
     → let told = told_checked (also_right c right n) in
     Tells (1 ∷ []) (0, 0, 0) told ⊎ ((d : EdgeDirection) × (a : ℕ) × (told ≡ refused Broken (0, number_of d, a)))
-checked-told (Checked·.Accepted rows) true n h = h
-checked-told (Checked·.Accepted rows) false n h = inr (Incoming, n + 1, refl)
-checked-told (Checked·.Fault d a) right n h = h
-checked-told (Checked·.Refused why) right n h = h
+checked-told (Ok rows) true n h = h
+checked-told (Ok rows) false n h = inr (Incoming, n + 1, refl)
+checked-told (Err (At d a)) right n h = h
+checked-told (Err (Refused why)) right n h = h
 
 finding : (f : Filed) (r : ℕ) → Tells (1 ∷ 12 ∷ 5 ∷ 6 ∷ []) 0 (find_number f r)
 unfolding find_number

@@ -18,10 +18,10 @@ use Rattle.tables.proofs.Laws.{tested}
 use Rattle.lookups.specs.Lookups.{set_edge_weight}
 use Rattle.rows.specs.Calls.{add_edge}
 use Rattle.find.specs.Find.{update_edge}
-use Rattle.sound.specs.declared.Checked.{Checked}
-use Rattle.sound.specs.declared.Checked.TheVariants as Checked·
+use Rattle.std.proofs.Common.{Ok, Err}
+use Rattle.sound.specs.declared.Fault.TheVariants.{At, Refused}
 use Rattle.sound.specs.Sound.{lists}
-use Rattle.sound.specs.Check.{checked, is_sound, told_checked}
+use Rattle.sound.specs.Check.{Checked, checked, is_sound, told_checked}
 use Rattle.sound.proofs.Exactly.{sound_accepted, accepted-sound}
 use Rattle.image.specs.Calls.{image_write}
 use Rattle.image.proofs.Copies.{is_sound-says}
@@ -105,18 +105,18 @@ pub accepted_so : (f : Filed) → (told_checked (checked_filed f)).number ≡ 0 
 accepted_so f z = go (checked_filed f) refl z
   where
     go : (c : Checked) → checked_filed f ≡ c → (told_checked c).number ≡ 0 → SoundFiled f
-    go (Checked·.Accepted rows) e z = (accepted-right f rows e).0
-    go (Checked·.Fault d a) e z = absurd (omega arith)
-    go (Checked·.Refused why) e z = absurd (not_zero why z)
+    go (Ok rows) e z = (accepted-right f rows e).0
+    go (Err (At d a)) e z = absurd (omega arith)
+    go (Err (Refused why)) e z = absurd (not_zero why z)
 
 pub links_first : (f : Filed) → (SoundNet f.net → ⊥) → checked_filed f ≡ checked f.net
 unfolding checked_filed
 links_first f n = go (checked f.net) refl
   where
     go : (c : Checked) → checked f.net ≡ c → also_right c (is_right_for f) f.net.n ≡ c
-    go (Checked·.Accepted rows) e = let s = accepted-sound f.net rows e in absurd (n (s.0, s.1))
-    go (Checked·.Fault d a) e = refl
-    go (Checked·.Refused why) e = refl
+    go (Ok rows) e = let s = accepted-sound f.net rows e in absurd (n (s.0, s.1))
+    go (Err (At d a)) e = refl
+    go (Err (Refused why)) e = refl
 
 not_sound : (g : Net) → fits g ≡ true → (SoundNet g → ⊥) → is_sound g ≡ false
 not_sound g t n = go (is_sound g) refl

@@ -1,4 +1,5 @@
 -- When a call with a directory is refused as without one, and what a register number has against it: `first_so`, `judged_so`, `reweighed_so`.
+use Prim.{tt}
 use Prim.Native.Nat.{ℕ}
 use mathlib.Core.Path.{◌≡◌, refl}
 use mathlib.Core.Logic.{⊎_elim}
@@ -6,12 +7,12 @@ use mathlib.Core.Bool.{Bool, true, false, ◌&&◌, ◌||◌}
 use borrow.Author.Tests.{eq-eqb, ne_eqb, lt-ltb, le-ltb}
 use lib.Dec.{eqb, ltb}
 use lib.ListN.{length}
+use Rattle.std.proofs.Common.{Ok, Err}
 use Rattle.index.specs.declared.Refusal.TheVariants.{Broken, Taken, Beyond}
 use Rattle.index.specs.Index.{END, is_end}
 use Rattle.tables.specs.Net.{Net}
 use Rattle.tables.specs.Answers.{Out, out, unless}
 use Rattle.directory.specs.Directory.{entry, row_named, Filed, filed, register_of, beside}
-use Rattle.dirrows.specs.declared.parts.Claim.TheVariants as Claim·
 use Rattle.dirrows.specs.Calls.{claimed, if_free, reentered, reweighed}
 use Rattle.demands.specs.Demand1.{refusal}
 use Rattle.demands.specs.Wish1.{First, Judged, Reweighed}
@@ -54,7 +55,7 @@ module _ {A : Type 0} (f : Filed) (zeros : A) (e w : ℕ) (served : Out A Filed)
   unfolding claimed
   judged_ways P s b t = go (ltb w (length f.directory)) (is_end (entry f.directory w) || eqb (entry f.directory w) e)
     where
-      go : (i j : Bool) → P (if_free f zeros (unless i (Claim·.Refused Beyond) (unless j (Claim·.Refused Taken) Claim·.Free)) served)
+      go : (i j : Bool) → P (if_free f zeros (unless i (Err Beyond) (unless j (Err Taken) (Ok tt))) served)
       go true true = s
       go true false = t
       go false j = b
@@ -75,6 +76,6 @@ module _ {A : Type 0} (f : Filed) (zeros : A) (e w : ℕ) (o : Out A Net) where
   reweigh_ways P s m b t = go (row_named (register_of f.net) f.directory e)
     where
       go : (i : Bool)
-          → P (if_free f zeros (unless i (Claim·.Refused Broken) (claimed f.directory w e)) (out o.answer (filed o.after (reentered (register_of f.net) f.directory e w))))
+          → P (if_free f zeros (unless i (Err Broken) (claimed f.directory w e)) (out o.answer (filed o.after (reentered (register_of f.net) f.directory e w))))
       go true = judged_ways f zeros e w _ P s b t
       go false = m

@@ -1,7 +1,7 @@
 -- The contract of each call settles it: a second answer that meets it is equal. Assumes nothing.
 use Prim.{tt}
 use mathlib.Core.Path.{◌≡◌, refl, ap}
-use Rattle.tables.specs.Net.{net}
+use Rattle.tables.specs.Net.{net_of}
 use Rattle.tables.specs.Answers.{out, told_node, told_edge, told_change, told_items}
 use Rattle.walker.specs.Steps.{step}
 use Rattle.removal.specs.Removal.{told_edge_removed}
@@ -34,7 +34,7 @@ use Rattle.closing.specs.contracts as closing_contracts
 use Rattle.image.proofs as image
 use Rattle.image.specs.contracts as image_contracts
 use Rattle.demands.specs.Settles.{Ensures, SettlesAll, SettlesByHand}
-use Rattle.demands.proofs.Alike.{alike, answers-alike, told-alike, all_columns, node_columns, edge_columns, no_columns}
+use Rattle.demands.proofs.Alike.{alike, answers-alike, told-alike, all_columns, node_columns, edge_columns}
 
 pub node-index : SettlesAll index_contracts.NodeIndex.index.ended index.NodeIndex.index.Reads.Pre index.NodeIndex.index.Reads.Post
 node-index = (λ κs given. tt, λ κs given x y p q. answers-alike p q)
@@ -51,7 +51,7 @@ edge-is_end = (λ κs given. tt, λ κs given x y p q. answers-alike p q)
 pub direction_number : SettlesAll index_contracts.EdgeDirection.number.ended index.EdgeDirection.number.Reads.Pre index.EdgeDirection.number.Reads.Post
 direction_number = (λ κs given. tt, λ κs given x y p q. answers-alike p q)
 
-pub direction_of_lem : SettlesAll index_contracts.EdgeDirection.of.ended index.EdgeDirection.of.Reads.Pre index.EdgeDirection.of.Reads.Post
+pub direction_of_lem : SettlesAll index_contracts.EdgeDirectionFromUsize.from.ended index.EdgeDirectionFromUsize.from.Reads.Pre index.EdgeDirectionFromUsize.from.Reads.Post
 direction_of_lem = (λ κs given. tt, λ κs given x y p q. answers-alike p q)
 
 pub refusal-number : SettlesAll index_contracts.Refusal.number.ended index.Refusal.number.Reads.Pre index.Refusal.number.Reads.Post
@@ -85,7 +85,7 @@ pub add_edge_lem : SettlesAll rows_contracts.add_edge.ended rows.add_edge.Reads.
 add_edge_lem = (λ κs given. tt, λ κs given x y p q. ap (λ o. (o.0, edge_columns o.1 _)) (told-alike told_edge edge_told_once p q))
 
 pub all_edge_weights_lem : SettlesAll rows_contracts.all_edge_weights.ended rows.all_edge_weights.Reads.Pre rows.all_edge_weights.Reads.Post
-all_edge_weights_lem = (λ κs given. tt, λ κs given x y p q. ap (λ o. (o.0, no_columns (o.1, _))) (told-alike told_items items_told_once p q))
+all_edge_weights_lem = (λ κs given. tt, λ κs given x y p q. ap (λ o. (o.0, (_, (o.1, _)))) (told-alike told_items items_told_once p q))
 
 pub clear-edges : SettlesAll rows_contracts.clear_edges.ended rows.clear_edges.Reads.Pre rows.clear_edges.Reads.Post
 clear-edges = (λ κs given. tt, λ κs given x y p q. ap (λ o. (o.0, edge_columns o.1 _)) (told-alike told_change change_told_once p q))
@@ -94,22 +94,22 @@ pub clear : SettlesAll rows_contracts.clear.ended rows.clear.Reads.Pre rows.clea
 clear = (λ κs given. tt, λ κs given x y p q. ap (λ o. (o.0, all_columns o.1 _)) (told-alike told_change change_told_once p q))
 
 pub neighbors : SettlesAll walks_contracts.neighbors.ended walks.neighbors.Reads.Pre walks.neighbors.Reads.Post
-neighbors = (λ κs given. tt, λ κs given x y p q. ap (λ o. (o.0, no_columns (_, (o.1, _)))) (told-alike told_items items_told_once p q))
+neighbors = (λ κs given. tt, λ κs given x y p q. ap (λ o. (o.0, (_, (_, (o.1, _))))) (told-alike told_items items_told_once p q))
 
 pub edge-weights : SettlesAll walks_contracts.edge_weights.ended walks.edge_weights.Reads.Pre walks.edge_weights.Reads.Post
-edge-weights = (λ κs given. tt, λ κs given x y p q. ap (λ o. (o.0, no_columns (_, (o.1, _)))) (told-alike told_items items_told_once p q))
+edge-weights = (λ κs given. tt, λ κs given x y p q. ap (λ o. (o.0, (_, (_, (o.1, _))))) (told-alike told_items items_told_once p q))
 
 pub edges_between_lem : SettlesAll walks_contracts.edges_between.ended walks.edges_between.Reads.Pre walks.edges_between.Reads.Post
-edges_between_lem = (λ κs given. tt, λ κs given x y p q. ap (λ o. (o.0, no_columns (_, (_, (o.1, _))))) (told-alike told_items items_told_once p q))
+edges_between_lem = (λ κs given. tt, λ κs given x y p q. ap (λ o. (o.0, (_, (_, (_, (o.1, _)))))) (told-alike told_items items_told_once p q))
 
 pub edges_mut_lem : SettlesAll walks_contracts.edges_mut.ended walks.edges_mut.Reads.Pre walks.edges_mut.Reads.Post
-edges_mut_lem = (λ κs given. tt, λ κs given x y p q. ap (λ o. (o.0, no_columns (_, (o.1, _)))) (told-alike told_items items_told_once p q))
+edges_mut_lem = (λ κs given. tt, λ κs given x y p q. ap (λ o. (o.0, (_, (_, (o.1, _))))) (told-alike told_items items_told_once p q))
 
 pub edge_weights_mut : SettlesAll walks_contracts.edge_weights_mut.ended walks.edge_weights_mut.Reads.Pre walks.edge_weights_mut.Reads.Post
-edge_weights_mut = (λ κs given. tt, λ κs given x y p q. ap (λ o. (o.0, no_columns (_, (o.1, _)))) (told-alike told_items items_told_once p q))
+edge_weights_mut = (λ κs given. tt, λ κs given x y p q. ap (λ o. (o.0, (_, (_, (o.1, _))))) (told-alike told_items items_told_once p q))
 
 pub edges : SettlesAll walks_contracts.edges.ended walks.edges.Reads.Pre walks.edges.Reads.Post
-edges = (λ κs given. tt, λ κs given x y p q. ap (λ o. (o.0, no_columns (_, (o.1.numbers, (o.1.sources, (o.1.targets, _)))))) (told-alike told_items items_told_once p q))
+edges = (λ κs given. tt, λ κs given x y p q. ap (λ o. (o.0, (_, (_, (o.1.numbers, (o.1.sources, (o.1.targets, _))))))) (told-alike told_items items_told_once p q))
 
 pub find-edge : SettlesAll find_contracts.find_edge.ended find.find_edge.Reads.Pre find.find_edge.Reads.Post
 find-edge = (λ κs given. tt, λ κs given x y p q. ap (λ r. (r, _)) (edge_told_once _ _ (alike p q)))
@@ -131,8 +131,7 @@ walker_next = (λ κs given. tt, λ κs given x y p q. ap (λ o. (o.0, (o.1, _))
 
 -- the same of the clauses of `next` as they stand in any model of the logic, before the prover reads them: here is their claim
 abbrev next_ensures : Ensures lent_contracts.next.ended
-next_ensures κs (w, (weights, (heads, (registers, (links, (ends, (n, (m, none)))))))) r left =
-    out (told_node r) left.0.now ≡ step (net weights.now heads.now registers.now links.now ends.now n m) w.now
+next_ensures κs (w, (net, none)) r left = out (told_node r) left.0.now ≡ step (net_of net) w.now
 
 pub walker_next_written : SettlesByHand lent_contracts.next.ended (λ M 𝓤. lent_contracts.next.clauses {M = M} {𝓤 = 𝓤}) next_ensures
 walker_next_written =
@@ -155,7 +154,7 @@ pub remove-node : SettlesAll closing_contracts.remove_node.ended closing.remove_
 remove-node = (λ κs given. tt, λ κs given x y p q. ap (λ o. (o.0, all_columns o.1.0 (_, (o.1.1, _)))) (told-alike told_node_removed node_removed_told_once p q))
 
 pub image_write_lem : SettlesAll image_contracts.image_write.ended image.image_write.Reads.Pre image.image_write.Reads.Post
-image_write_lem = (λ κs given. tt, λ κs given x y p q. ap (λ o. (o.0, no_columns (o.1, _))) (told-alike told_items items_told_once p q))
+image_write_lem = (λ κs given. tt, λ κs given x y p q. ap (λ o. (o.0, (_, (o.1, _)))) (told-alike told_items items_told_once p q))
 
 pub image_read_lem : SettlesAll image_contracts.image_read.ended image.image_read.Reads.Pre image.image_read.Reads.Post
 image_read_lem = (λ κs given. tt, λ κs given x y p q. ap (λ o. (o.0, all_columns o.1 _)) (told-alike told_change change_told_once p q))

@@ -1,8 +1,10 @@
 -- The contracts of the calls with a directory, and of their parts, settle them: a second answer that meets one is equal.
-use Prim.{tt}
+use Prim.{Unit, tt}
 use mathlib.Core.Path.{◌≡◌, refl, sym, ap, ◌∙◌}
 use mathlib.Core.List.{[]}
 use lib.ListN.{length}
+use Rattle.std.proofs.Common.{Result, Ok, Err}
+use Rattle.index.specs.declared.Refusal.{Refusal}
 use Rattle.index.proofs.Laws.{untold, untold_refusal}
 use Rattle.tables.specs.Answers.{told_edge, told_change, told_items, onto}
 use Rattle.tables.proofs.Told.{told-once, edge_told_once, change_told_once, items_told_once}
@@ -11,8 +13,6 @@ use Rattle.removal.proofs.Told.{edge_removed_told_once}
 use Rattle.closing.specs.Closing.{told_node_removed}
 use Rattle.closing.proofs.Told.{node_removed_told_once}
 use Rattle.directory.specs.Directory.{register_in, register_of, directory_of}
-use Rattle.dirrows.specs.declared.parts.Claim.{Claim}
-use Rattle.dirrows.specs.declared.parts.Claim.TheVariants as Claim·
 use Rattle.dirrows.specs.Parts.{claim_no}
 use Rattle.dirremoval.specs.Parts.{directory_after}
 use Rattle.directory.proofs as directory
@@ -34,7 +34,7 @@ use Rattle.dirclosing.specs.contracts as dirclosing_contracts
 use Rattle.dirimage.proofs as dirimage
 use Rattle.dirimage.specs.contracts as dirimage_contracts
 use Rattle.demands.specs.Settles.{Settles, SettlesAll}
-use Rattle.demands.proofs.Alike.{alike, answers-alike, told-alike, all_columns, edge_columns, no_columns}
+use Rattle.demands.proofs.Alike.{alike, answers-alike, told-alike, all_columns, edge_columns}
 
 pub dir_check : SettlesAll dirsound_contracts.check.ended dirsound.check.Reads.Pre dirsound.check.Reads.Post
 dir_check = (λ κs given. tt, λ κs given x y p q. answers-alike p q)
@@ -79,7 +79,7 @@ dir_remove_node = (
 )
 
 pub dir_image_write : SettlesAll dirimage_contracts.image_write.ended dirimage.image_write.Reads.Pre dirimage.image_write.Reads.Post
-dir_image_write = (λ κs given. tt, λ κs given x y p q. ap (λ o. (o.0, no_columns (_, (o.1, _)))) (told-alike told_items items_told_once p q))
+dir_image_write = (λ κs given. tt, λ κs given x y p q. ap (λ o. (o.0, (_, (_, (o.1, _))))) (told-alike told_items items_told_once p q))
 
 pub dir_image_read : SettlesAll dirimage_contracts.image_read.ended dirimage.image_read.Reads.Pre dirimage.image_read.Reads.Post
 dir_image_read = (λ κs given. tt, λ κs given x y p q. ap (λ o. (o.0, all_columns o.1.net (o.1.directory, _))) (told-alike told_change change_told_once p q))
@@ -113,12 +113,12 @@ pub directory_follow : Settles directory_contracts.parts.follow.ended directory.
 directory_follow κs given x y p q = λ i. (_, (alike p q i, _))
 
 -- no two claims have one number
-claim_is : (r : Claim) → untold Claim·.Free Claim·.Refused (claim_no r) ≡ r
-claim_is Claim·.Free = refl
-claim_is (Claim·.Refused why) = untold_refusal Claim·.Free Claim·.Refused why
+claim_is : (r : Result Unit Refusal) → untold (Ok tt) Err (claim_no r) ≡ r
+claim_is (Ok u) = refl
+claim_is (Err why) = untold_refusal (Ok tt) Err why
 
-claim_told_once : (r s : Claim) → claim_no r ≡ claim_no s → r ≡ s
-claim_told_once = told-once claim_no (untold Claim·.Free Claim·.Refused) claim_is
+claim_told_once : (r s : Result Unit Refusal) → claim_no r ≡ claim_no s → r ≡ s
+claim_told_once = told-once claim_no (untold (Ok tt) Err) claim_is
 
 pub dirrows_addable : Settles dirrows_contracts.parts.addable.ended dirrows.parts.addable.Reads.Post
 dirrows_addable κs given x y p q = ap (λ r. (r, _)) (claim_told_once _ _ (alike (p 0) (q 0)))
@@ -153,9 +153,12 @@ dirstripping_strip κs given x y p q =
 
 pub dirclosing_take_node : Settles dirclosing_contracts.parts.take_node.ended dirclosing.parts.take_node.Reads.Post
 dirclosing_take_node κs given x y p q =
-    let e = told-alike told_node_removed node_removed_told_once p.closes q.closes in
-    let d = p.directory_is ∙ ap (λ o. directory_of (length given.1.1.1.1.1.1.1.0.now) (register_of o.1.0) o.1.0.m) e ∙ sym q.directory_is in
-    λ i. ((e i).0, all_columns (e i).1.0 (d i, (_, ((e i).1.1, _))))
+    let e = alike p.closes q.closes in
+    let d = p.directory_is ∙ ap (λ o. directory_of (length given.1.1.1.1.1.1.1.0.now) (register_of o.after.0) o.after.0.m) e ∙ sym q.directory_is in
+    λ i. (
+      record { weight = (e i).answer.values.0; rows = (e i).answer.values.1; count = (e i).answer.values.2 },
+      all_columns (e i).after.0 (d i, (_, ((e i).after.1, _))),
+    )
 
 pub dirclosing_removable : Settles dirclosing_contracts.parts.removable.ended dirclosing.parts.removable.Reads.Post
 dirclosing_removable κs given x y p q = ap (λ r. (r, _)) (claim_told_once _ _ (alike p q))

@@ -1,6 +1,11 @@
 -- The same of the calls for other languages, and of the parts that tell their answers. Assumes nothing.
 use Prim.{tt}
 use mathlib.Core.Path.{ap}
+use mir.Syntax.{Dict}
+use denote.RattleType.{RattleType}
+use denote.Param.Laws.{Laws, IsCopy}
+use Rattle.std.specs.declared.clone.Clone.{Ghosts}
+use Rattle.cells.specs.declared.parts.InCells as InCells
 use Rattle.cells.proofs as cells
 use Rattle.cells.specs.contracts as cells_contracts
 use Rattle.exportrows.proofs as exportrows
@@ -14,17 +19,41 @@ use Rattle.exportdirectory.specs.contracts as exportdirectory_contracts
 use Rattle.demands.specs.Settles.{Settles, SettlesAll}
 use Rattle.demands.proofs.Alike.{alike, answers-alike, all_columns, node_columns, edge_columns, no_columns}
 
-pub cells_tell_node : Settles cells_contracts.parts.tell_node.ended cells.parts.tell_node.Reads.Post
-cells_tell_node κs given x y p q = ap (λ o. (o.number, (_, (o.values, _)))) (alike p q)
+pub cells_of_u32 : Settles cells_contracts.parts.U32InCells.in_cells.ended cells.parts.U32InCells.in_cells.Reads.Post
+cells_of_u32 κs given x y p q = answers-alike p q
 
-pub cells_tell_edge : Settles cells_contracts.parts.tell_edge.ended cells.parts.tell_edge.Reads.Post
-cells_tell_edge κs given x y p q = ap (λ o. (o.number, (_, (o.values, _)))) (alike p q)
+pub cells_of_i32 : Settles cells_contracts.parts.I32InCells.in_cells.ended cells.parts.I32InCells.in_cells.Reads.Post
+cells_of_i32 κs given x y p q = answers-alike p q
 
-pub cells_tell_node_weight : Settles cells_contracts.parts.tell_node_weight.ended cells.parts.tell_node_weight.Reads.Post
-cells_tell_node_weight κs given x y p q = ap (λ o. (o.number, (_, (o.values, _)))) (alike p q)
+pub cells_of_i64 : Settles cells_contracts.parts.I64InCells.in_cells.ended cells.parts.I64InCells.in_cells.Reads.Post
+cells_of_i64 κs given x y p q = answers-alike p q
 
-pub cells_tell_edge_weight : Settles cells_contracts.parts.tell_edge_weight.ended cells.parts.tell_edge_weight.Reads.Post
-cells_tell_edge_weight κs given x y p q = ap (λ o. (o.number, (_, (o.values, _)))) (alike p q)
+pub cells_of_bool : Settles cells_contracts.parts.BoolInCells.in_cells.ended cells.parts.BoolInCells.in_cells.Reads.Post
+cells_of_bool κs given x y p q = answers-alike p q
+
+pub cells_of_node : Settles cells_contracts.parts.NodeIndexInCells.in_cells.ended cells.parts.NodeIndexInCells.in_cells.Reads.Post
+cells_of_node κs given x y p q = answers-alike p q
+
+pub cells_of_edge : Settles cells_contracts.parts.EdgeIndexInCells.in_cells.ended cells.parts.EdgeIndexInCells.in_cells.Reads.Post
+cells_of_edge κs given x y p q = answers-alike p q
+
+pub cells_of_ends : Settles cells_contracts.parts.Tuple2NodeIndexNodeIndexInCells.in_cells.ended cells.parts.Tuple2NodeIndexNodeIndexInCells.in_cells.Reads.Post
+cells_of_ends κs given x y p q = answers-alike p q
+
+pub cells_of_walker : Settles cells_contracts.parts.WalkerInCells.in_cells.ended cells.parts.WalkerInCells.in_cells.Reads.Post
+cells_of_walker κs given x y p q = answers-alike p q
+
+pub cells_of_removed_edge : Settles cells_contracts.parts.RemovedEdgeInCells.in_cells.ended cells.parts.RemovedEdgeInCells.in_cells.Reads.Post
+cells_of_removed_edge κs given x y p q = answers-alike p q
+
+pub cells_of_removed_node : Settles cells_contracts.parts.RemovedNodeInCells.in_cells.ended cells.parts.RemovedNodeInCells.in_cells.Reads.Post
+cells_of_removed_node κs given x y p q = answers-alike p q
+
+-- for every type of value and of cells
+module _ (T C : RattleType) (lt : Laws T) (lc : Laws C) (t : IsCopy T) (c : IsCopy C)
+    (g : InCells.Ghosts T.Denot C.Denot) (d : Dict) (gt : Ghosts T.Denot) (dt : Dict) (gc : Ghosts C.Denot) (dc : Dict) where
+  pub cells_tell : Settles (cells_contracts.parts.tell.ended T C g d gt dt gc dc) (cells.parts.tell.Reads.Post T C lt lc t c g d gt dt gc dc)
+  cells_tell κs given x y p q = ap (λ o. (o.number, (_, (o.values, _)))) (alike p q)
 
 pub cells_tell_ends : Settles cells_contracts.parts.tell_ends.ended cells.parts.tell_ends.Reads.Post
 cells_tell_ends κs given x y p q = ap (λ o. (o.number, (_, (o.values.0, (o.values.1, _))))) (alike p q)
@@ -32,26 +61,14 @@ cells_tell_ends κs given x y p q = ap (λ o. (o.number, (_, (o.values.0, (o.val
 pub cells_tell_change : Settles cells_contracts.parts.tell_change.ended cells.parts.tell_change.Reads.Post
 cells_tell_change κs given x y p q = ap (λ o. (o.number, _)) (alike p q)
 
-pub cells_tell_items : Settles cells_contracts.parts.tell_items.ended cells.parts.tell_items.Reads.Post
-cells_tell_items κs given x y p q = ap (λ o. (o.number, (_, (o.values, _)))) (alike p q)
-
-pub cells_tell_contains : Settles cells_contracts.parts.tell_contains.ended cells.parts.tell_contains.Reads.Post
-cells_tell_contains κs given x y p q = ap (λ o. (o.number, (_, (o.values, _)))) (alike p q)
-
 pub cells-walker_in : Settles cells_contracts.parts.walker_in.ended cells.parts.walker_in.Reads.Post
 cells-walker_in κs given x y p q = answers-alike p q
-
-pub cells_put_walker : Settles cells_contracts.parts.put_walker.ended cells.parts.put_walker.Reads.Post
-cells_put_walker κs given x y p q = ap (λ o. (_, (_, (o, _)))) (alike p q)
 
 pub cells_tell_walker : Settles cells_contracts.parts.tell_walker.ended cells.parts.tell_walker.Reads.Post
 cells_tell_walker κs given x y p q = ap (λ o. (o.number, (_, (o.values, _)))) (alike p q)
 
 pub cells_tell_step : Settles cells_contracts.parts.tell_step.ended cells.parts.tell_step.Reads.Post
 cells_tell_step κs given x y p q = ap (λ o. (o.answer.number, (_, (o.after, (o.answer.values, _))))) (alike p q)
-
-pub cells_tell_sum : Settles cells_contracts.parts.tell_sum.ended cells.parts.tell_sum.Reads.Post
-cells_tell_sum κs given x y p q = ap (λ o. (o.number, (_, (o.values, _)))) (alike p q)
 
 pub cells_tell_check : Settles cells_contracts.parts.tell_check.ended cells.parts.tell_check.Reads.Post
 cells_tell_check κs given x y p q = ap (λ o. (o.number, (_, (o.values.0, (o.values.1, (o.values.2, _)))))) (alike p q)

@@ -1,6 +1,11 @@
 -- The same of the bench's loops, and of the parts that say what an answer adds to their sums. Assumes nothing.
 use Prim.{tt}
 use mathlib.Core.Path.{ap}
+use mir.Syntax.{Dict}
+use denote.RattleType.{RattleType}
+use denote.Param.Laws.{Laws, IsCopy}
+use Rattle.std.specs.declared.clone.Clone.{Ghosts}
+use Rattle.loops.specs.declared.parts.Addend as Addend
 use Rattle.loops.proofs as loops
 use Rattle.loops.specs.contracts as loops_contracts
 use Rattle.dirloops.proofs as dirloops
@@ -8,14 +13,19 @@ use Rattle.dirloops.specs.contracts as dirloops_contracts
 use Rattle.demands.specs.Settles.{Settles, SettlesAll}
 use Rattle.demands.proofs.Alike.{alike, answers-alike, node_columns, edge_columns, no_columns}
 
-pub loops_node_adds : Settles loops_contracts.parts.node_adds.ended loops.parts.node_adds.Reads.Post
-loops_node_adds κs given x y p q = answers-alike p q
+pub loops_node_addend : Settles loops_contracts.parts.NodeIndexAddend.addend.ended loops.parts.NodeIndexAddend.addend.Reads.Post
+loops_node_addend κs given x y p q = answers-alike p q
 
-pub loops_edge_adds : Settles loops_contracts.parts.edge_adds.ended loops.parts.edge_adds.Reads.Post
-loops_edge_adds κs given x y p q = answers-alike p q
+pub loops_edge_addend : Settles loops_contracts.parts.EdgeIndexAddend.addend.ended loops.parts.EdgeIndexAddend.addend.Reads.Post
+loops_edge_addend κs given x y p q = answers-alike p q
 
-pub loops_removal_adds : Settles loops_contracts.parts.removal_adds.ended loops.parts.removal_adds.Reads.Post
-loops_removal_adds κs given x y p q = answers-alike p q
+pub loops_removed_edge_addend : Settles loops_contracts.parts.RemovedEdgeAddend.addend.ended loops.parts.RemovedEdgeAddend.addend.Reads.Post
+loops_removed_edge_addend κs given x y p q = answers-alike p q
+
+-- for every type of what a call tells
+module _ (T : RattleType) (lt : Laws T) (t : IsCopy T) (g : Addend.Ghosts T.Denot) (d : Dict) (gt : Ghosts T.Denot) (dt : Dict) where
+  pub loops_adds : Settles (loops_contracts.parts.adds.ended T g d gt dt) (loops.parts.adds.Reads.Post T lt t g d gt dt)
+  loops_adds κs given x y p q = answers-alike p q
 
 pub loops_items_add : Settles loops_contracts.parts.items_add.ended loops.parts.items_add.Reads.Post
 loops_items_add κs given x y p q = answers-alike p q

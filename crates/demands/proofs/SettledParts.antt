@@ -4,6 +4,10 @@ use Prim.Native.Nat.{ℕ}
 use mathlib.Core.Path.{ap, sym, ◌∙◌}
 use mathlib.Core.List.{List, []}
 use lib.ListN.{length}
+use mir.Syntax.{w64}
+use mir.Val.{Fits}
+use denote.RattleType.{RattleType}
+use denote.Param.{value_of}
 use Rattle.tables.specs.Answers.{Out, told_change, told_items, onto}
 use Rattle.removal.specs.Removal.{told_edge_removed}
 use Rattle.closing.specs.Closing.{told_node_removed}
@@ -41,6 +45,9 @@ use Rattle.loading.specs.contracts as loading_contracts
 use Rattle.demands.specs.Settles.{Settles, SettlesAll}
 use Rattle.demands.proofs.Alike.{alike, answers-alike, told-alike, all_columns}
 
+pub network-fits : SettlesAll tables_contracts.network.Network.fits.ended tables.network.Network.fits.Reads.Pre tables.network.Network.fits.Reads.Post
+network-fits = (λ κs given. tt, λ κs given x y p q. answers-alike p q)
+
 pub tables_fits : Settles tables_contracts.parts.fits.ended tables.parts.fits.Reads.Post
 tables_fits κs given x y p q = answers-alike p q
 
@@ -56,15 +63,6 @@ tables_link_edge κs given x y p q =
     let links = alike p.row_is.links_are q.row_is.links_are in
     let ends = alike p.row_is.ends_are q.row_is.ends_are in
     λ i. (_, (alike p.heads_are q.heads_are i, (registers i, (links i, (ends i, _)))))
-
-pub tables_fill : Settles tables_contracts.parts.fill.ended tables.parts.fill.Reads.Post
-tables_fill κs given x y p q = ap (λ l. (_, (l, _))) (alike p q)
-
-pub tables_fill_weights : Settles tables_contracts.parts.fill_weights.ended tables.parts.fill_weights.Reads.Post
-tables_fill_weights κs given x y p q = ap (λ l. (_, (l, _))) (alike p q)
-
-pub tables_copy : Settles tables_contracts.parts.copy.ended tables.parts.copy.Reads.Post
-tables_copy κs given x y p q = ap (λ l. (_, (_, (l, _)))) (alike p q)
 
 pub tables_vacate_nodes : Settles tables_contracts.parts.vacate_nodes.ended tables.parts.vacate_nodes.Reads.Post
 tables_vacate_nodes κs given x y p q = λ i. (_, (alike p.weights_are q.weights_are i, (alike p.heads_are q.heads_are i, _)))
@@ -100,7 +98,7 @@ pub legs_settle : Settles legs_contracts.parts.settle.ended legs.parts.settle.Re
 legs_settle κs given x y p q = answers-alike p q
 
 pub legs_give-both : Settles legs_contracts.parts.give_both.ended legs.parts.give_both.Reads.Post
-legs_give-both κs given x y p q = ap (λ (o : Out ℕ (List ℕ)). (o.answer.values, (_, (_, (_, (_, (_, (_, (_, (_, (_, (o.after, _)))))))))))) (alike p q)
+legs_give-both κs given x y p q = ap (λ (o : Out ℕ (List ℕ)). (o.answer.values, (_, (_, (_, (_, (_, (_, (_, (_, (o.after, _))))))))))) (alike p q)
 
 pub legs_walk : Settles legs_contracts.parts.walk.ended legs.parts.walk.Reads.Post
 legs_walk κs given x y p q = ap (λ o. (o.0, (_, (_, (_, (_, (_, (_, (_, (o.1, _)))))))))) (told-alike told_items items_told_once p q)
@@ -181,17 +179,12 @@ bits = (λ κs given. tt, λ κs given x y p q. answers-alike p q)
 pub signed : SettlesAll layout_contracts.signed.ended layout.signed.Reads.Pre layout.signed.Reads.Post
 signed = (λ κs given. tt, λ κs given x y p q. answers-alike p q)
 
-pub layout_put_half : Settles layout_contracts.parts.put_half.ended layout.parts.put_half.Reads.Post
-layout_put_half κs given x y p q = ap (λ l. (_, (l, _))) (alike p q)
+-- for every width
+pub layout_put_number : (K : RattleType) (f : Fits w64 (value_of K)) → Settles (layout_contracts.parts.put_number.ended K) (layout.parts.put_number.Reads.Post (value_of K) f)
+layout_put_number K f κs given x y p q = ap (λ l. (_, (l, _))) (alike p q)
 
-pub layout_put_word : Settles layout_contracts.parts.put_word.ended layout.parts.put_word.Reads.Post
-layout_put_word κs given x y p q = ap (λ l. (_, (l, _))) (alike p q)
-
-pub layout_half : Settles layout_contracts.parts.half.ended layout.parts.half.Reads.Post
-layout_half κs given x y p q = answers-alike p q
-
-pub layout_word : Settles layout_contracts.parts.word.ended layout.parts.word.Reads.Post
-layout_word κs given x y p q = answers-alike p q
+pub layout_number_at : (K : RattleType) (f : Fits w64 (value_of K)) → Settles (layout_contracts.parts.number_at.ended K) (layout.parts.number_at.Reads.Post (value_of K) f)
+layout_number_at K f κs given x y p q = answers-alike p q
 
 pub layout_put_head : Settles layout_contracts.parts.put_head.ended layout.parts.put_head.Reads.Post
 layout_put_head κs given x y p q = ap (λ l. (_, (l, _))) (alike p q)
@@ -199,20 +192,32 @@ layout_put_head κs given x y p q = ap (λ l. (_, (l, _))) (alike p q)
 pub layout_marked : Settles layout_contracts.parts.marked.ended layout.parts.marked.Reads.Post
 layout_marked κs given x y p q = answers-alike p q
 
-pub layout_put_node : Settles layout_contracts.parts.put_node.ended layout.parts.put_node.Reads.Post
-layout_put_node κs given x y p q = ap (λ l. (_, (l, _))) (alike p q)
+pub layout_node_put : Settles layout_contracts.parts.NodeRow.put.ended layout.parts.NodeRow.put.Reads.Post
+layout_node_put κs given x y p q = ap (λ l. (_, (_, (l, _)))) (alike p q)
 
-pub layout_put_edge : Settles layout_contracts.parts.put_edge.ended layout.parts.put_edge.Reads.Post
-layout_put_edge κs given x y p q = ap (λ l. (_, (l, _))) (alike p q)
-
-pub layout_node_at : Settles layout_contracts.parts.node_at.ended layout.parts.node_at.Reads.Post
+pub layout_node_at : Settles layout_contracts.parts.NodeRow.at.ended layout.parts.NodeRow.at.Reads.Post
 layout_node_at κs given x y p q = answers-alike p q
 
-pub layout_edge_at : Settles layout_contracts.parts.edge_at.ended layout.parts.edge_at.Reads.Post
+pub layout_edge_put : Settles layout_contracts.parts.EdgeRow.put.ended layout.parts.EdgeRow.put.Reads.Post
+layout_edge_put κs given x y p q = ap (λ l. (_, (_, (l, _)))) (alike p q)
+
+pub layout_edge_at : Settles layout_contracts.parts.EdgeRow.at.ended layout.parts.EdgeRow.at.Reads.Post
 layout_edge_at κs given x y p q = answers-alike p q
 
+pub imagerows_node_of : Settles imagerows_contracts.parts.row.NodeTableRow.of.ended imagerows.parts.row.NodeTableRow.of.Reads.Post
+imagerows_node_of κs given x y p q = answers-alike p q
+
+pub imagerows_node_store : Settles imagerows_contracts.parts.row.NodeTableRow.store.ended imagerows.parts.row.NodeTableRow.store.Reads.Post
+imagerows_node_store κs given x y p q = ap (λ g. (_, (_, (g.weights, (g.heads, (g.registers, (g.links, (g.ends, _)))))))) (alike (p 0 0) (q 0 0))
+
+pub imagerows_edge_of : Settles imagerows_contracts.parts.row.EdgeTableRow.of.ended imagerows.parts.row.EdgeTableRow.of.Reads.Post
+imagerows_edge_of κs given x y p q = answers-alike p q
+
+pub imagerows_edge_store : Settles imagerows_contracts.parts.row.EdgeTableRow.store.ended imagerows.parts.row.EdgeTableRow.store.Reads.Post
+imagerows_edge_store κs given x y p q = ap (λ g. (_, (_, (g.weights, (g.heads, (g.registers, (g.links, (g.ends, _)))))))) (alike (p 0 0) (q 0 0))
+
 pub imagerows_write : Settles imagerows_contracts.parts.write.ended imagerows.parts.write.Reads.Post
-imagerows_write κs given x y p q = ap (λ l. (_, (_, (_, (_, (_, (_, (_, (_, (l, _)))))))))) (alike p q)
+imagerows_write κs given x y p q = ap (λ l. (_, (_, (l, _)))) (alike p q)
 
 pub imagerows_load : Settles imagerows_contracts.parts.load.ended imagerows.parts.load.Reads.Post
 imagerows_load κs given x y p q = ap (λ g. (_, (g.weights, (g.heads, (g.registers, (g.links, (g.ends, _))))))) (alike p q)

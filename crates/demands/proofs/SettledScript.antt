@@ -1,5 +1,15 @@
 -- The same of what a script is made of, and of its run: its texts, its answer lines, its commands. Assumes nothing.
 use Prim.{tt}
+use mathlib.Core.Path.{◌≡◌, sym, ◌∙◌}
+use mir.Syntax.{Dict}
+use denote.MutBor.{MutBor}
+use denote.RattleType.{RattleType}
+use denote.Param.Laws.{Laws, IsCopy}
+use Rattle.std.specs.declared.clone.Clone.{Ghosts}
+use Rattle.commands.specs.declared.parts.ToReply as ToReply
+use Rattle.dispatch.specs.declared.Desk.{Desk}
+use Rattle.dispatch.specs.Parts.{SameTable, SameTables}
+use Rattle.dispatch.specs.Step.{state_of}
 use mathlib.Core.Path.{refl, ap}
 use Rattle.printing.proofs as printing
 use Rattle.printing.specs.contracts as printing_contracts
@@ -21,8 +31,13 @@ use Rattle.telling.proofs as telling
 use Rattle.telling.specs.contracts as telling_contracts
 use Rattle.printer.proofs as printer
 use Rattle.printer.specs.contracts as printer_contracts
+use Rattle.std.proofs.Common.{Option, None, Some}
+use Rattle.index.specs.declared.Refusal.{Refusal}
+use Rattle.index.proofs.Laws.{untold, untold_refusal}
+use Rattle.tables.proofs.Told.{told-once}
+use Rattle.script.specs.Parts.{stop_no}
 use Rattle.demands.specs.Settles.{Settles, SettlesAll}
-use Rattle.demands.proofs.Alike.{alike, answers-alike, all_columns, node_columns, edge_columns, no_columns}
+use Rattle.demands.proofs.Alike.{alike, answers-alike, all_columns, node_columns, edge_columns}
 
 pub printing_width : Settles printing_contracts.parts.width.ended printing.parts.width.Reads.Post
 printing_width κs given x y p q = answers-alike p.is q.is
@@ -103,16 +118,16 @@ pub remove_node_line_lem : SettlesAll commands_contracts.remove_node_line.ended 
 remove_node_line_lem = (λ κs given. tt, λ κs given x y p q. ap (λ o. (o.reply, all_columns o.after.0 (_, (o.after.1, _)))) (alike p q))
 
 pub neighbors_line_lem : SettlesAll commands_contracts.neighbors_line.ended commands.neighbors_line.Reads.Pre commands.neighbors_line.Reads.Post
-neighbors_line_lem = (λ κs given. tt, λ κs given x y p q. ap (λ o. (o.reply, no_columns (_, (o.after, _)))) (alike p q))
+neighbors_line_lem = (λ κs given. tt, λ κs given x y p q. ap (λ o. (o.reply, (_, (_, (o.after, _))))) (alike p q))
 
 pub edges_line_lem : SettlesAll commands_contracts.edges_line.ended commands.edges_line.Reads.Pre commands.edges_line.Reads.Post
-edges_line_lem = (λ κs given. tt, λ κs given x y p q. ap (λ o. (o.reply, no_columns (_, (o.after.numbers, (o.after.sources, (o.after.targets, _)))))) (alike p q))
+edges_line_lem = (λ κs given. tt, λ κs given x y p q. ap (λ o. (o.reply, (_, (_, (o.after.numbers, (o.after.sources, (o.after.targets, _))))))) (alike p q))
 
 pub edges_mut_line_lem : SettlesAll commands_contracts.edges_mut_line.ended commands.edges_mut_line.Reads.Pre commands.edges_mut_line.Reads.Post
-edges_mut_line_lem = (λ κs given. tt, λ κs given x y p q. ap (λ o. (o.reply, no_columns (_, (o.after, _)))) (alike p q))
+edges_mut_line_lem = (λ κs given. tt, λ κs given x y p q. ap (λ o. (o.reply, (_, (_, (o.after, _))))) (alike p q))
 
 pub edges_between_line_lem : SettlesAll commands_contracts.edges_between_line.ended commands.edges_between_line.Reads.Pre commands.edges_between_line.Reads.Post
-edges_between_line_lem = (λ κs given. tt, λ κs given x y p q. ap (λ o. (o.reply, no_columns (_, (_, (o.after, _))))) (alike p q))
+edges_between_line_lem = (λ κs given. tt, λ κs given x y p q. ap (λ o. (o.reply, (_, (_, (_, (o.after, _)))))) (alike p q))
 
 pub sum_around_line_lem : SettlesAll commands_contracts.sum_around_line.ended commands.sum_around_line.Reads.Pre commands.sum_around_line.Reads.Post
 sum_around_line_lem = (λ κs given. tt, λ κs given x y p q. answers-alike p q)
@@ -132,26 +147,31 @@ commands_refused κs given x y p q = answers-alike p q
 pub commands_value : Settles commands_contracts.parts.value.ended commands.parts.value.Reads.Post
 commands_value κs given x y p q = answers-alike p q
 
-pub commands_node_reply : Settles commands_contracts.parts.node_reply.ended commands.parts.node_reply.Reads.Post
-commands_node_reply κs given x y p q = answers-alike p q
+pub commands_node_to_reply : Settles commands_contracts.parts.NodeIndexToReply.to_reply.ended commands.parts.NodeIndexToReply.to_reply.Reads.Post
+commands_node_to_reply κs given x y p q = answers-alike p q
 
-pub commands_edge_reply : Settles commands_contracts.parts.edge_reply.ended commands.parts.edge_reply.Reads.Post
-commands_edge_reply κs given x y p q = answers-alike p q
+pub commands_edge_to_reply : Settles commands_contracts.parts.EdgeIndexToReply.to_reply.ended commands.parts.EdgeIndexToReply.to_reply.Reads.Post
+commands_edge_to_reply κs given x y p q = answers-alike p q
 
-pub commands_changed_reply : Settles commands_contracts.parts.changed_reply.ended commands.parts.changed_reply.Reads.Post
-commands_changed_reply κs given x y p q = answers-alike p q
+pub commands_nothing_to_reply : Settles commands_contracts.parts.UnitToReply.to_reply.ended commands.parts.UnitToReply.to_reply.Reads.Post
+commands_nothing_to_reply κs given x y p q = answers-alike p q
 
-pub commands_items_reply : Settles commands_contracts.parts.items_reply.ended commands.parts.items_reply.Reads.Post
-commands_items_reply κs given x y p q = answers-alike p q
+pub commands_sum_to_reply : Settles commands_contracts.parts.I64ToReply.to_reply.ended commands.parts.I64ToReply.to_reply.Reads.Post
+commands_sum_to_reply κs given x y p q = answers-alike p q
 
-pub commands_sum_reply : Settles commands_contracts.parts.sum_reply.ended commands.parts.sum_reply.Reads.Post
-commands_sum_reply κs given x y p q = answers-alike p q
+pub commands_count_to_reply : Settles commands_contracts.parts.U32ToReply.to_reply.ended commands.parts.U32ToReply.to_reply.Reads.Post
+commands_count_to_reply κs given x y p q = answers-alike p q
+
+pub commands_removed_edge_to_reply : Settles commands_contracts.parts.RemovedEdgeToReply.to_reply.ended commands.parts.RemovedEdgeToReply.to_reply.Reads.Post
+commands_removed_edge_to_reply κs given x y p q = answers-alike p q
+
+-- for every type of what a served call tells
+module _ (T : RattleType) (lt : Laws T) (t : IsCopy T) (g : ToReply.Ghosts T.Denot) (d : Dict) (gt : Ghosts T.Denot) (dt : Dict) where
+  pub commands_reply_of : Settles (commands_contracts.parts.reply_of.ended T g d gt dt) (commands.parts.reply_of.Reads.Post T lt t g d gt dt)
+  commands_reply_of κs given x y p q = answers-alike p q
 
 pub commands_check_reply : Settles commands_contracts.parts.check_reply.ended commands.parts.check_reply.Reads.Post
 commands_check_reply κs given x y p q = answers-alike p q
-
-pub commands_edge_removed_reply : Settles commands_contracts.parts.edge_removed_reply.ended commands.parts.edge_removed_reply.Reads.Post
-commands_edge_removed_reply κs given x y p q = answers-alike p q
 
 pub commands_node_removed_reply : Settles commands_contracts.parts.node_removed_reply.ended commands.parts.node_removed_reply.Reads.Post
 commands_node_removed_reply κs given x y p q = answers-alike p q
@@ -159,11 +179,40 @@ commands_node_removed_reply κs given x y p q = answers-alike p q
 pub operands_of_lem : SettlesAll letters_contracts.operands_of.ended letters.operands_of.Reads.Pre letters.operands_of.Reads.Post
 operands_of_lem = (λ κs given. tt, λ κs given x y p q. answers-alike p q)
 
+-- what lies behind a reference to the same table is all that can differ; so of a desk
+lent_alike : {A : Type 0} {b x y : MutBor A} → SameTable b x → SameTable b y → x.now ≡ y.now → x ≡ y
+lent_alike p q h = λ i. record { ref_ptr = (sym p.place ∙ q.place) i; ghost_name = (sym p.name ∙ q.name) i; now = h i }
+
+desk_alike : {d x y : Desk} → SameTables d x → SameTables d y → state_of x ≡ state_of y → x ≡ y
+desk_alike p q h =
+    let weights = lent_alike p.weights_stay q.weights_stay (ap (λ s. s.network.weights) h) in
+    let heads = lent_alike p.heads_stay q.heads_stay (ap (λ s. s.network.heads) h) in
+    let registers = lent_alike p.registers_stay q.registers_stay (ap (λ s. s.network.registers) h) in
+    let links = lent_alike p.links_stay q.links_stay (ap (λ s. s.network.links) h) in
+    let ends = lent_alike p.ends_stay q.ends_stay (ap (λ s. s.network.ends) h) in
+    let items = lent_alike p.items_stay q.items_stay (ap (λ s. s.tables.numbers) h) in
+    let sources = lent_alike p.sources_stay q.sources_stay (ap (λ s. s.tables.sources) h) in
+    let targets = lent_alike p.targets_stay q.targets_stay (ap (λ s. s.tables.targets) h) in
+    λ i. record {
+      weights = weights i;
+      heads = heads i;
+      registers = registers i;
+      links = links i;
+      ends = ends i;
+      n = (h i).network.n;
+      m = (h i).network.m;
+      items = items i;
+      sources = sources i;
+      targets = targets i;
+    }
+
 pub dispatch_command : SettlesAll dispatch_contracts.dispatch.ended dispatch.dispatch.Reads.Pre dispatch.dispatch.Reads.Post
 dispatch_command = (
   λ κs given. tt,
   λ κs given x y p q.
-      ap (λ o. (o.reply, all_columns o.after.network (o.after.tables.numbers, (o.after.tables.sources, (o.after.tables.targets, _))))) (alike p q),
+      let e = alike p.0 q.0 in
+      let desk = desk_alike p.1 q.1 (ap (λ o. o.after) e) in
+      λ i. ((e i).reply, (desk i, _)),
 )
 
 pub net-run : SettlesAll script_contracts.net_run.ended script.net_run.Reads.Pre script.net_run.Reads.Post
@@ -171,15 +220,26 @@ net-run = (λ κs given. tt, λ κs given x y p q. ap (λ o. (o.0, (_, (o.1, _))
 
 pub obeying_answer_line : Settles obeying_contracts.parts.answer_line.ended obeying.parts.answer_line.Reads.Post
 obeying_answer_line κs given x y p q =
-    ap (λ o. (o.reply, (_, (_, (_, all_columns o.after.network (o.after.tables.numbers, (o.after.tables.sources, (o.after.tables.targets, _)))))))) (alike p q)
+    let e = alike p.0 q.0 in
+    let desk = desk_alike p.1 q.1 (ap (λ o. o.after) e) in
+    λ i. ((e i).reply, (_, (desk i, _)))
+
+-- what stops a run is told by its number, and nothing by 0
+stop_is : (r : Option Refusal) → untold None Some (stop_no r) ≡ r
+stop_is None = refl
+stop_is (Some why) = untold_refusal None Some why
+
+stop_told_once : (r s : Option Refusal) → stop_no r ≡ stop_no s → r ≡ s
+stop_told_once = told-once stop_no (untold None Some) stop_is
 
 pub script_run_lines : Settles script_contracts.parts.run_lines.ended script.parts.run_lines.Reads.Post
 script_run_lines κs given x y p q =
-    let s = alike p.state-is q.state-is in
-    λ i. (
-      record { number = alike p.number_is q.number_is i; bytes = alike p.bytes_are q.bytes_are i },
-      (_, (alike p.output_is q.output_is i, (_, all_columns (s i).network ((s i).tables.numbers, ((s i).tables.sources, ((s i).tables.targets, _)))))),
-    )
+    let stopped = stop_told_once _ _ (alike p.0.number_is q.0.number_is) in
+    let desk = desk_alike p.1 q.1 (alike p.0.state-is q.0.state-is) in
+    λ i. (record { stopped = stopped i; bytes = alike p.0.bytes_are q.0.bytes_are i }, (_, (alike p.0.output_is q.0.output_is i, (_, (desk i, _)))))
+
+pub script_ended_number : Settles script_contracts.parts.Ended.number.ended script.parts.Ended.number.Reads.Post
+script_ended_number κs given x y p q = answers-alike p q
 
 pub script_limit_of : Settles script_contracts.parts.limit_of.ended script.parts.limit_of.Reads.Post
 script_limit_of κs given x y p q = answers-alike p q

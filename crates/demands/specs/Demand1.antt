@@ -17,9 +17,8 @@ use Rattle.find.specs.Find.{find_edge, contains_edge, update_edge}
 use Rattle.walker.specs.declared.Walker.{Walker}
 use Rattle.walker.specs.Steps.{walker_of, with_incoming, begin, step}
 use Rattle.walker.specs.Sums.{sum_around}
-use Rattle.sound.specs.declared.Checked.{Checked}
 use Rattle.sound.specs.Sound.{Sound}
-use Rattle.sound.specs.Check.{checked, told_checked}
+use Rattle.sound.specs.Check.{Checked, checked, told_checked}
 use Rattle.sound.specs.Answer.{Answers}
 use Rattle.removal.specs.Removal.{remove_edge}
 use Rattle.closing.specs.Closing.{remove_node}
