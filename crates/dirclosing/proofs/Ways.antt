@@ -3,7 +3,7 @@
 use Prim.Native.Nat.{ℕ, ◌≤◌, ◌<◌}
 use mathlib.Core.Path.{◌≡◌, refl, sym, ap, ◌∙◌}
 use mathlib.Core.Logic.{◌⊎◌, inl, inr, ⊎_elim}
-use mathlib.Core.Bool.{true, false}
+use mathlib.Core.Bool.{Bool, true, false}
 use mathlib.Core.List.{List}
 use borrow.Author.Tests.{lt-ltb, ltb-true, leb-true}
 use lib.Dec.{ltb, leb}
@@ -47,6 +47,10 @@ pub closable_so : (f : Filed) (a : ℕ) → is_sound_filed f ≡ true → a < f.
 closable_so f a s l =
     let S = sound_so f s in
     record { fit = S.0; lists = lists f.net; sound = S.1; node = l }
+
+-- as the code has tested it
+pub closable_told : (f : Filed) {a : ℕ} {v : Checked} {b : Bool} → v ≡ checked_filed f → b ≡ is_err v → b ≡ false → a < f.net.n → Closable f.net a
+closable_told f {a} {v} p e q l = closable_so f a (all_accepted f v p (sym e ∙ q)) l
 
 module _ (f : Filed) (a : ℕ) (I : List ℕ) where
   abbrev asked : ClosedFiled

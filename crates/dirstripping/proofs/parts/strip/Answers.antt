@@ -1,7 +1,7 @@
 use Rattle.std.proofs.Common.{◌<◌, length, refl, sym, ap, ◌∙◌, arith}
 use Rattle.index.specs.Index.{is_end}
 use Rattle.index.proofs.Laws.{number-below}
-use Rattle.stripping.proofs.Headwise.{head-is, number_of-all, head-cell, removable_so, served_so, turned_by}
+use Rattle.stripping.proofs.Headwise.{head-is, head-goes, number_of-all, head-cell, removable_so, served_so, turned_by}
 use Rattle.stripping.proofs.Phases.{few_edges, phased_more, room_for-more, phased_rest, phased_items, phased_as}
 use Rattle.dirstripping.proofs.Turns.{right_turned, directory_so}
 use Rattle.dirstripping.proofs.parts.strip.Goals as goal
@@ -17,7 +17,7 @@ pub take_out-requires : goal.take_out-requires
 take_out-requires c =
     let H = c.heads.heads in
     let head = head-is H c.heads.links c.index.ensures c.number.ensures refl in
-    let edge = ap is_end (sym head) ∙ sym c.is_end.ensures ∙ c.if-is_end.false in
+    let edge = head-goes H c.heads.links c.index.ensures c.number.ensures refl c.is_end.ensures c.if-is_end.false in
     removable_so _ _ _ _ _ _ _ _ _ _ _ _ _ _ _ _ _ _ _ c.heads.invariant.0 (number-below _) c.requires.strippable.node edge H H H H 0 _ head
 
 -- there is room for the edge's weight
@@ -26,8 +26,7 @@ bounds-items-count c =
     let p = c.requires.strippable in
     let l : c.loop-d.d-index < 2 = omega arith in
     let k = number_of-all c.loop-d.d-index l in
-    let head = head-is c.heads.heads c.heads.links c.index.ensures c.number.ensures k in
-    let edge = ap is_end (sym head) ∙ sym c.is_end.ensures ∙ c.if-is_end.false in
+    let edge = head-goes c.heads.heads c.heads.links c.index.ensures c.number.ensures k c.is_end.ensures c.if-is_end.false in
     room_for-more _ _ _ _ _ _ _ _ c.loop-d.invariant.0 (rw k at c.heads.invariant.0) p.totals p.room l p.node edge
 
 -- few edges are counted
@@ -43,7 +42,7 @@ pub heads-smaller : goal.heads-smaller
 heads-smaller c =
     let k = c.take_out.auto in
     let head = head-is c.heads.heads c.heads.links c.index.ensures c.number.ensures refl in
-    let edge = ap is_end (sym head) ∙ sym c.is_end.ensures ∙ c.if-is_end.false in
+    let edge = head-goes c.heads.heads c.heads.links c.index.ensures c.number.ensures refl c.is_end.ensures c.if-is_end.false in
     let small : c.in-Ok.gone.rows < 4294967296 = omega arith in
     let l : c.loop-d.d-index < 2 = omega arith in
     let d = number_of-all c.loop-d.d-index l in
@@ -59,7 +58,7 @@ heads-preserved c =
     let r = c.take_out.ensures in
     let H = c.heads.heads in
     let head = head-is H c.heads.links c.index.ensures c.number.ensures refl in
-    let edge = ap is_end (sym head) ∙ sym c.is_end.ensures ∙ c.if-is_end.false in
+    let edge = head-goes H c.heads.links c.index.ensures c.number.ensures refl c.is_end.ensures c.if-is_end.false in
     let small : c.in-Ok.gone.rows < 4294967296 = omega arith in
     let l : c.loop-d.d-index < 2 = omega arith in
     let d = number_of-all c.loop-d.d-index l in
