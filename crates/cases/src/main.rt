@@ -6,12 +6,13 @@
 
 ghost use Rattle.std.specs.Prelude.{◌≤◌, ◌≡◌, IfOk, length, take};
 
+use dispatch::Desk;
 use image::{image_read, image_write};
-use index::{EdgeIndex, NodeIndex};
+use index::{EdgeIndex, NodeIndex, Refusal};
 use script::parts::run_lines;
 use std::io;
 use std::io::{Read, Stdout};
-use tables::Changed;
+use tables::Network;
 use tables::parts::{EDGE_CELLS, NODE_CELLS};
 
 mod show;
@@ -20,10 +21,7 @@ mod show;
 fn lend(bytes: &[u8], len: usize) -> usize
     ensures { (result ≤ length bytes.now) × (result ≡ length (take result bytes.now)) }
 {
-    if len < bytes.len() {
-        return len;
-    }
-    bytes.len()
+    len.min(bytes.len())
 }
 
 // Reads to the end, or until `script` is full, and answers how many bytes. A pipe gives it in pieces.
@@ -51,24 +49,20 @@ fn run(stdout: &Stdout, script: &[u8]) -> io::Result<()>
     let mut registers = [0u32; 5];
     let mut links = [EdgeIndex::END.0; EDGE_CELLS * 5];
     let mut ends = [NodeIndex::END.0; EDGE_CELLS * 5];
-    let mut n = 0;
-    let mut m = 0;
     let mut items = [0u32; 8];
-    let ended = run_lines(
-        script,
-        &mut out,
-        1024,
-        &mut weights,
-        &mut heads,
-        &mut registers,
-        &mut links,
-        &mut ends,
-        &mut n,
-        &mut m,
-        &mut items,
-        &mut [],
-        &mut [],
-    );
+    let mut desk = Desk {
+        weights: &mut weights,
+        heads: &mut heads,
+        registers: &mut registers,
+        links: &mut links,
+        ends: &mut ends,
+        n: 0,
+        m: 0,
+        items: &mut items,
+        sources: &mut [],
+        targets: &mut [],
+    };
+    let ended = run_lines(script, &mut out, 1024, &mut desk);
     answers(stdout, &out, ended.bytes)?;
     edge_rows(stdout, &registers, &links, &ends)
 }
@@ -88,16 +82,16 @@ fn edge_rows(stdout: &Stdout, registers: &[u32], links: &[u32], ends: &[u32]) ->
 // One node weighing -3, no edges: its image, and what a read of 24 bytes of it is refused with.
 fn one_node(stdout: &Stdout) -> io::Result<()> {
     let mut bytes = [0u8; 25];
-    image_write(
-        &[-3],
-        &[EdgeIndex::END.0; NODE_CELLS],
-        &[],
-        &[],
-        &[],
-        1,
-        0,
-        &mut bytes,
-    );
+    let net = Network {
+        weights: &[-3],
+        heads: &[EdgeIndex::END.0; NODE_CELLS],
+        registers: &[],
+        links: &[],
+        ends: &[],
+        n: 1,
+        m: 0,
+    };
+    let _ = image_write(net, &mut bytes);
     show::bytes(stdout, b"image:", &bytes)?;
     let short = lend(&bytes, 24);
     read(stdout, &bytes[..short])
@@ -121,8 +115,8 @@ fn read(stdout: &Stdout, bytes: &[u8]) -> io::Result<()> {
     told(stdout, answer)
 }
 
-fn told(stdout: &Stdout, answer: Changed) -> io::Result<()> {
-    let Changed::Refused(why) = answer else {
+fn told(stdout: &Stdout, answer: Result<(), Refusal>) -> io::Result<()> {
+    let Err(why) = answer else {
         return Ok(());
     };
     show::cells(stdout, b"24 bytes of it, refused:", &[why.number()])

@@ -18,10 +18,8 @@ fn number(stdout: &Stdout, x: u32) -> io::Result<()> {
 
 pub fn cells(stdout: &Stdout, label: &[u8], column: &[u32]) -> io::Result<()> {
     text(stdout, label)?;
-    let mut i = 0;
-    while i < column.len() {
-        number(stdout, column[i])?;
-        i += 1;
+    for x in column {
+        number(stdout, *x)?;
     }
     text(stdout, b"\n")
 }
@@ -37,12 +35,9 @@ fn digit(x: u8) -> u8 {
 
 pub fn bytes(stdout: &Stdout, label: &[u8], column: &[u8]) -> io::Result<()> {
     text(stdout, label)?;
-    let mut i = 0;
-    while i < column.len() {
-        let x = column[i];
-        let shown = [b' ', digit(x / 16), digit(x)];
+    for x in column {
+        let shown = [b' ', digit(*x / 16), digit(*x)];
         text(stdout, &shown)?;
-        i += 1;
     }
     text(stdout, b"\n")
 }

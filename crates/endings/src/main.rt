@@ -15,10 +15,7 @@ const SHOWN: usize = 9;
 fn last(len: usize) -> usize
     ensures { result ≤ len }
 {
-    if len < SHOWN {
-        return 0;
-    }
-    len - SHOWN
+    len.saturating_sub(SHOWN)
 }
 
 fn show_last(rt: &impl Print, told: &[u8]) -> io::Result<()> {

@@ -43,10 +43,7 @@ fn read_script<R: Read>(input: &mut R, script: &mut [u8]) -> io::Result<usize>
 // Reads on where the script is too long, and answers whether there was more.
 fn read_more<R: Read>(input: &mut R) -> bool {
     let mut rest = [0u8; 4096];
-    match input.read(&mut rest) {
-        Ok(more) => 0 < more,
-        Err(_) => false,
-    }
+    input.read(&mut rest).is_ok_and(|more| 0 < more)
 }
 
 // Reads the rest of a script that is too long, so that whoever writes it can end. Nothing says that an input ends, so the
@@ -59,7 +56,7 @@ fn read_rest<R: Read>(input: &mut R) {
     }
 }
 
-// Reads a script, and writes what is printed of its run.
+// Reads a script, and writes what is printed of its run. By match, and not by `map_err`: tried, and the facts of its closures are not found.
 fn answer<R: Read, W: Write>(input: &mut R, out: &mut W) -> Result<(), Failed>
     ensures { OnOk result (IfSome (R.remaining input.old) (λ script. Appends (W.contents out.old) (W.contents out.new) (told_run script))) }
 {

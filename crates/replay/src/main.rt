@@ -57,23 +57,12 @@ fn print_with(stdout: &Stdout, x: usize, behind: &[u8]) -> io::Result<()> {
 fn lend(bytes: &[u8], len: usize) -> usize
     ensures { (result ≤ length bytes.now) × (result ≡ length (take result bytes.now)) }
 {
-    if len < bytes.len() {
-        return len;
-    }
-    bytes.len()
+    len.min(bytes.len())
 }
 
 // How many bytes from `written` on have lost their mark.
 fn touched(out: &[u8], written: usize) -> usize {
-    let mut count: usize = 0;
-    let mut i = written;
-    while i < out.len() {
-        if out[i] != MARK {
-            count += 1;
-        }
-        i += 1;
-    }
-    count
+    out.iter().skip(written).filter(|b| **b != MARK).count()
 }
 
 fn run(script: &[u8], out: &mut [u8], room: usize) -> u64 {

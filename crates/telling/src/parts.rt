@@ -23,7 +23,8 @@ pub fn write_ending(out: &mut [u8], at: usize, number: u32) -> usize
     write_byte(out, newline, b'\n')
 }
 
-// Runs a script, and writes all that is printed of it to the front of the output; how many bytes that is.
+// Runs a script, and writes all that is printed of it to the front of the output; how many bytes that is. `net_run` packs two numbers into
+// one, as C gets it.
 pub fn tell_run(script: &[u8], out: &mut [u8]) -> usize
     requires { told_bytes ≤ length out.old }
     ensures { PrintsRun script.now out.old out.new result }
