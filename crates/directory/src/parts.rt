@@ -4,7 +4,8 @@ ghost use Rattle.directory.specs.Directory.{register_in, entry, bears, stands, r
 
 use index::EdgeIndex;
 
-// The row that number r stands in, or `END`: none, also where the directory has no cell for it.
+// The row that number r stands in, or `END`: none, also where the directory has no cell for it. An Option would be no plainer: the cells hold `END`,
+// `enter` takes it, and the contract tells the two alike.
 pub fn entry(directory: &[u32], r: u32) -> EdgeIndex
     ensures { result.0 ≡ entry directory.now r }
 {
