@@ -4,7 +4,7 @@
 // has left; then the image of one node.
 #![tactic(auto)]
 
-ghost use Rattle.std.specs.Prelude.{◌≤◌, ◌≡◌, IfOk, length, take};
+ghost use Rattle.std.specs.Prelude.{◌≤◌, IfOk, length};
 
 use dispatch::Desk;
 use image::{image_read, image_write};
@@ -17,14 +17,8 @@ use tables::parts::{EDGE_CELLS, NODE_CELLS};
 
 mod show;
 
-// At most `len` of the bytes. The contract is what `&bytes[..lent]` asks.
-fn lend(bytes: &[u8], len: usize) -> usize
-    ensures { (result ≤ length bytes.now) × (result ≡ length (take result bytes.now)) }
-{
-    len.min(bytes.len())
-}
-
-// Reads to the end, or until `script` is full, and answers how many bytes. A pipe gives it in pieces.
+// Reads to the end, or until `script` is full, and answers how many bytes. A pipe gives it in pieces. As in `netrun`, but no program lends
+// another a function, and a library for one loop would be no plainer.
 fn read_script<R: Read>(input: &mut R, script: &mut [u8]) -> io::Result<usize>
     ensures { IfOk result (λ n. n ≤ length script.new) }
 {
@@ -68,7 +62,7 @@ fn run(stdout: &Stdout, script: &[u8]) -> io::Result<()>
 }
 
 fn answers(stdout: &Stdout, out: &[u8], bytes: usize) -> io::Result<()> {
-    let written = lend(out, bytes);
+    let written = bytes.min(out.len());
     show::text(stdout, &out[..written])
 }
 
@@ -93,7 +87,7 @@ fn one_node(stdout: &Stdout) -> io::Result<()> {
     };
     let _ = image_write(net, &mut bytes);
     show::bytes(stdout, b"image:", &bytes)?;
-    let short = lend(&bytes, 24);
+    let short = bytes.len().min(24);
     read(stdout, &bytes[..short])
 }
 

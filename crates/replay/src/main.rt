@@ -6,7 +6,7 @@
 // answer number, the bytes written, and how many bytes past these were touched; then these bytes follow.
 #![tactic(auto)]
 
-ghost use Rattle.std.specs.Prelude.{◌≤◌, ◌<◌, ◌≡◌, length, take};
+ghost use Rattle.std.specs.Prelude.{◌<◌};
 
 use printer::print_number;
 use script::net_run;
@@ -53,20 +53,13 @@ fn print_with(stdout: &Stdout, x: usize, behind: &[u8]) -> io::Result<()> {
     stdout.write_all(behind)
 }
 
-// At most `len` of the bytes. The contract is what `&bytes[..lent]` asks.
-fn lend(bytes: &[u8], len: usize) -> usize
-    ensures { (result ≤ length bytes.now) × (result ≡ length (take result bytes.now)) }
-{
-    len.min(bytes.len())
-}
-
 // How many bytes from `written` on have lost their mark.
 fn touched(out: &[u8], written: usize) -> usize {
     out.iter().skip(written).filter(|b| **b != MARK).count()
 }
 
 fn run(script: &[u8], out: &mut [u8], room: usize) -> u64 {
-    let lent = lend(out, room);
+    let lent = room.min(out.len());
     net_run(script, &mut out[..lent])
 }
 
@@ -78,12 +71,12 @@ fn answer(stdout: &Stdout, place: usize, script: &[u8], room: usize) -> io::Resu
     print_with(stdout, (told / 4294967296) as usize, b" ")?;
     print_with(stdout, written, b" ")?;
     print_with(stdout, touched(&out, written), b"\n")?;
-    let shown = lend(&out, written);
+    let shown = written.min(out.len());
     stdout.write_all(&out[..shown])
 }
 
 fn read_bytes<R: Read>(input: &mut R, bytes: &mut [u8], len: usize) -> io::Result<()> {
-    let lent = lend(bytes, len);
+    let lent = len.min(bytes.len());
     fill(input, &mut bytes[..lent])
 }
 
@@ -96,7 +89,7 @@ fn ask<R: Read>(stdout: &Stdout, input: &mut R) -> io::Result<()> {
     read_bytes(input, &mut script, len)?;
     let mut newline = [0u8; 1];
     read_bytes(input, &mut newline, 1)?;
-    let lent = lend(&script, len);
+    let lent = len.min(script.len());
     answer(stdout, place, &script[..lent], room)
 }
 

@@ -39,6 +39,7 @@ pub fn run_lines(script: &[u8], out: &mut [u8], limit: usize, desk: &mut Desk) -
 {
     let mut at: usize = 0;
     let mut to: usize = 0;
+    // From line to line, each where the one before it ended: std's `split` would have one line more behind a last newline.
     while at < script.len() {
         let end = line_end(script, at);
         let reply = answer_line(&script[at..end], desk);
