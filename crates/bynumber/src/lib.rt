@@ -1,4 +1,5 @@
 // Edges looked up and taken out by their register numbers.
+// A call that changes something takes the columns one by one, so that its signature says which (`tables::Network`).
 #![tactic(auto)]
 
 ghost use Rattle.std.specs.Prelude.{◌≡◌};

@@ -1,4 +1,5 @@
 // Taking a node out of a network.
+// A call that changes something takes the columns one by one, so that its signature says which (`tables::Network`).
 #![tactic(auto)]
 
 ghost use Rattle.std.specs.Prelude.{◌≡◌};

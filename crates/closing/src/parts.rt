@@ -1,4 +1,5 @@
 // What a node's removal is made of: it is stripped of its edges, then dropped.
+// A part takes the columns that it needs one by one, so that its signature says which it may change (`tables::Network`).
 ghost use Rattle.std.specs.Prelude.{◌≡◌, length};
 ghost use Rattle.tables.specs.Net.{entering, leaving, net};
 ghost use Rattle.tables.specs.Answers.{out};

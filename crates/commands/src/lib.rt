@@ -1,4 +1,5 @@
 // The commands of a script: each makes one call of the library, and replies what it answers.
+// A call that changes something takes the columns one by one, so that its signature says which (`tables::Network`).
 #![tactic(auto)]
 
 ghost use Rattle.std.specs.Prelude.{◌≡◌};

@@ -1,5 +1,6 @@
 // What a node's removal is made of: the tests, which change nothing; then it is stripped of its edges, and the directory follows; then it is dropped, which
 // no entry has a part in.
+// A part takes the columns that it needs one by one, so that its signature says which it may change (`tables::Network`).
 ghost use Rattle.std.specs.Prelude.{◌≡◌, length};
 ghost use Rattle.tables.specs.Net.{entering, leaving, net, net_of};
 ghost use Rattle.directory.specs.Directory.{filed};

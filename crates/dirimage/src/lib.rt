@@ -1,4 +1,5 @@
 // A network with a directory as bytes, and back. The image holds no directory: a load fills it.
+// A call that changes something takes the columns one by one, so that its signature says which (`tables::Network`).
 #![tactic(auto)]
 
 ghost use Rattle.std.specs.Prelude.{◌≡◌};

@@ -1,4 +1,5 @@
 // The directory of rows that were loaded: it is filled, and they stay; or all is left empty.
+// A part takes the columns that it needs one by one, so that its signature says which it may change (`tables::Network`).
 ghost use Rattle.std.specs.Prelude.{◌≤◌, ◌≡◌, length};
 ghost use Rattle.index.specs.Refusals.{refusal_no};
 ghost use Rattle.tables.specs.Net.{entering, leaving, loan};

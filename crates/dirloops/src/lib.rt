@@ -1,4 +1,5 @@
 // The bench's loops on a network with a directory, beside those of `loops`: one call from C for many operations.
+// The parameters are those of the function for C, which lends each column on its own.
 #![tactic(auto)]
 
 ghost use Rattle.std.specs.Prelude.{◌≡◌};

@@ -1,4 +1,5 @@
 // What the calls are made of: the tests, which change nothing, and the change of a number.
+// A part takes the columns that it needs one by one, so that its signature says which it may change (`tables::Network`).
 ghost use Rattle.std.specs.Prelude.{◌≡◌, ◌<◌, length};
 ghost use Rattle.tables.specs.Net.{net_of, loan};
 ghost use Rattle.dirrows.specs.Calls.{claimed};

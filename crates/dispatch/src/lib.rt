@@ -1,4 +1,5 @@
-// The letter of a script line chooses the command.
+// The letter of a script line chooses the command. It stays the byte that the script has and the answer repeats: an enum of the commands would be no
+// plainer, since it would be read from that byte at one end and told by it at the other.
 #![tactic(auto)]
 
 ghost use Rattle.std.specs.Prelude.{◌≡◌};

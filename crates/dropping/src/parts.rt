@@ -1,4 +1,5 @@
 // A node without edges is dropped.
+// A part takes the columns that it needs one by one, so that its signature says which it may change (`tables::Network`).
 ghost use Rattle.std.specs.Prelude.{length};
 ghost use Rattle.tables.specs.Net.{loan};
 ghost use Rattle.lists.specs.Parts.{Edges};

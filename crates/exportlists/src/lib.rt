@@ -1,4 +1,5 @@
 // Lists for other languages: walks, searches, the walker, the sum, the check. Each function passes on to the call of its name.
+// The parameters are those of the function for C, which lends each column on its own.
 #![tactic(auto)]
 
 ghost use Rattle.std.specs.Prelude.{◌≡◌};

@@ -1,4 +1,5 @@
 // The search behind the calls of this crate. It also tells in which list it found the row.
+// A part takes the columns that it needs one by one, so that its signature says which it may change (`tables::Network`).
 ghost use Rattle.std.specs.Prelude.{◌≡◌, length};
 ghost use Rattle.find.specs.Parts.{sought_from, Searchable};
 

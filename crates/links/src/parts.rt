@@ -1,4 +1,5 @@
 // The links to an edge found and led elsewhere, a row moved.
+// A part takes the columns that it needs one by one, so that its signature says which it may change (`tables::Network`).
 ghost use Rattle.std.specs.Prelude.{◌≡◌, length};
 ghost use Rattle.tables.specs.Net.{loan};
 ghost use Rattle.links.specs.Links.{heads_at, links_at};

@@ -1,4 +1,5 @@
 // What the walks are made of. Each goes along one list, in direction k, from a link on.
+// A part takes the columns that it needs one by one, so that its signature says which it may change (`tables::Network`).
 ghost use Rattle.std.specs.Prelude.{◌≡◌, length, map};
 ghost use Rattle.lists.specs.Walk.{picked, rows_from, taken_from, stop_from, item_of};
 ghost use Rattle.tables.specs.Answers.{out, done};

@@ -1,4 +1,5 @@
 // What the two calls are made of, beside the rows: the check, and what it leaves of a load.
+// A call that changes something takes the columns one by one, so that its signature says which (`tables::Network`).
 ghost use Rattle.std.specs.Prelude.{◌≡◌, length};
 ghost use Rattle.tables.specs.Net.{entering, leaving, net_of};
 ghost use Rattle.tables.specs.Answers.{out, told_change};

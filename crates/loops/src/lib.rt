@@ -1,5 +1,6 @@
 // The bench's loops: one call from C for many operations. Each makes every call of its table, refused or not, and adds up what
 // the calls tell. They are no calls of the library: they measure it.
+// The parameters are those of the function for C, which lends each column on its own.
 #![tactic(auto)]
 
 ghost use Rattle.std.specs.Prelude.{◌≡◌};

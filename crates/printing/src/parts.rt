@@ -4,7 +4,8 @@ ghost use Rattle.printing.specs.Bytes.{glyph};
 ghost use Rattle.printing.specs.Digits.{digits, signed, field, fields_text};
 ghost use Rattle.printing.specs.Parts.{Measures, Writes};
 
-// Numbers out. A caller measures a line by the widths, then writes it in place.
+// Numbers out. A caller measures a line by the widths, then writes it in place. Each writer is lent the whole output and a place in it, and tells
+// where its text ends: slices of what is left would be no plainer, since whoever writes next, and the run at its end, wants that place.
 
 // How many digits x has.
 pub fn width(x: u64) -> usize

@@ -1,4 +1,5 @@
 // What the removal is made of: an edge bypassed, and the gap filled by the last row.
+// A part takes the columns that it needs one by one, so that its signature says which it may change (`tables::Network`).
 ghost use Rattle.std.specs.Prelude.{length};
 ghost use Rattle.tables.specs.Net.{loan};
 ghost use Rattle.removal.specs.Parts.{Removable, Gap, TakesOut, FillsGap};

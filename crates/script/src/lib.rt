@@ -14,7 +14,7 @@ pub mod parts;
 // A script has at most so many bytes, and so have its answers.
 pub const MOST_BYTES: usize = 16384;
 
-// The rows of a run's network, and the items of its output tables.
+// The rows of a run's network, and the items of its output tables: arrays, since the project has no heap.
 pub const NODE_ROOM: usize = 256;
 
 pub const EDGE_ROOM: usize = 1024;

@@ -1,4 +1,5 @@
 // A node is stripped of its edges.
+// A part takes the columns that it needs one by one, so that its signature says which it may change (`tables::Network`).
 ghost use Rattle.std.specs.Prelude.{length};
 ghost use Rattle.tables.specs.Net.{loan};
 ghost use Rattle.stripping.specs.Parts.{Strippable, Strips};

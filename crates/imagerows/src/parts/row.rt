@@ -1,4 +1,5 @@
 // A row of either kind, read from the columns and stored in them.
+// A part takes the columns that it needs one by one, so that its signature says which it may change (`tables::Network`).
 ghost use Rattle.std.specs.Prelude.{◌≡◌, ℕ, length};
 ghost use Rattle.tables.specs.Net.{Net, entering, leaving, net_of};
 ghost use Rattle.tables.specs.Rows.{node_row, edge_row, with_node, with_edge};
