@@ -77,14 +77,8 @@ impl Walker {
         }
         let start = self.start;
         let i = self.incoming;
-        match first(
-            net.links,
-            net.ends,
-            net.m,
-            INCOMING,
-            Pick::NotTo(start),
-            i.0,
-        ) {
+        let inward = Pick::NotTo(start);
+        match first(net.links, net.ends, net.m, INCOMING, inward, i.0) {
             Found::At(e) => {
                 let row = EDGE_CELLS * e.index();
                 let incoming = EdgeIndex(net.links[row + INCOMING]);
