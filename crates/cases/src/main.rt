@@ -33,7 +33,7 @@ fn read_script<R: Read>(input: &mut R, script: &mut [u8]) -> io::Result<usize>
     Ok(at)
 }
 
-// Obeys a script in an empty network. It has no G, which alone would need tables of sources and of targets.
+// Obeys a script in an empty network, in arrays: no program has a heap. It has no G, which alone would need tables of sources and of targets.
 fn run(stdout: &Stdout, script: &[u8]) -> io::Result<()>
     requires { length script.now ≤ 1024 }
 {

@@ -24,7 +24,7 @@ pub fn cells(stdout: &Stdout, label: &[u8], column: &[u32]) -> io::Result<()> {
     text(stdout, b"\n")
 }
 
-// The last hexadecimal digit.
+// The last hexadecimal digit, in capital letters, which std's `from_digit` has not.
 fn digit(x: u8) -> u8 {
     let last = x % 16;
     if last < 10 {

@@ -48,7 +48,8 @@ pub fn removable(
     Ok(())
 }
 
-// Node a of a sound network with a right directory goes, with all its edges; the table has room for their weights.
+// Node a of a sound network with a right directory goes, with all its edges; the table has room for their weights. As `closing` has it, with
+// another `strip`: a trait of that for one call each would be no plainer.
 pub fn take_node(
     weights: &mut [i32],
     heads: &mut [u32],

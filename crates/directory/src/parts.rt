@@ -24,7 +24,8 @@ pub fn enter(directory: &mut [u32], r: u32, e: EdgeIndex)
     }
 }
 
-// The entry of row e's number names it.
+// The entry of row e's number names it. That e is a row is asked here, in `follow` and in dirrows' `reweigh`: a row number with this for an
+// invariant would be one of a column that is lent, and so no plainer.
 pub fn named(registers: &[u32], directory: &[u32], e: EdgeIndex) -> bool
     requires { e.0 < length registers.now }
     ensures { result ≡ row_named (register_in registers.now) directory.now e.0 }

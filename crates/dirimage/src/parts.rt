@@ -12,6 +12,7 @@ use directory::parts::{enter, entry};
 use index::{EdgeIndex, Refusal};
 use loading::parts::empty;
 
+// Column and count, not the rows in use as a slice: a row's number is what is entered for it, and `Enters` speaks of the rows below m.
 // The rows are entered in turn. A number without a cell is 12 at once; one that is borne twice is 11, but only once every number has a cell.
 fn enter_rows(registers: &[u32], m: u32, directory: &mut [u32]) -> Result<(), Refusal>
     requires { m ≤ length registers.now }

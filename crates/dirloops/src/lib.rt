@@ -1,5 +1,6 @@
 // The bench's loops on a network with a directory, beside those of `loops`: one call from C for many operations.
-// The parameters are those of the function for C, which lends each column on its own.
+// The parameters are those of the function for C, which lends each column on its own. Each loop stands beside that of `loops` as `dirstripping`'s
+// does beside that of `stripping`: another call, and a column more.
 #![tactic(auto)]
 
 ghost use Rattle.std.specs.Prelude.{◌≡◌};

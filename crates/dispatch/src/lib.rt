@@ -48,7 +48,7 @@ pub fn dispatch(desk: &mut Desk, letter: u8, o: Numbers) -> Reply
     ensures same { SameTables desk.old desk.new }
 {
     let (n, m) = (desk.n, desk.m);
-    // Columns that a command only reads are lent by `&mut` as well: the prover has no rule yet for a `&` of one field beside a `&mut` of another.
+    // Columns that a command only reads are lent by `&mut` as well: tried by `&`, and the prover has no rule yet for that beside a `&mut` of another.
     let weights = &mut *desk.weights;
     let heads = &mut *desk.heads;
     let registers = &mut *desk.registers;

@@ -8,6 +8,7 @@ use script::MOST_BYTES;
 use std::io;
 use telling::parts::{TOLD_BYTES, tell_run};
 
+// Its tables are arrays: no program has a heap.
 // So many bytes are shown: the last answer line, and the ending.
 const SHOWN: usize = 9;
 

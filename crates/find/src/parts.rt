@@ -1,5 +1,5 @@
 // The search behind the calls of this crate. It also tells in which list it found the row.
-// A part takes the columns that it needs one by one, so that its signature says which it may change (`tables::Network`).
+// A part takes the columns that it reads and no others: the whole network, as `tables::Network`, would ask more of its callers.
 ghost use Rattle.std.specs.Prelude.{◌≡◌, length};
 ghost use Rattle.find.specs.Parts.{sought_from, Searchable};
 

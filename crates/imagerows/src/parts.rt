@@ -1,5 +1,5 @@
 // Rows into bytes, and bytes into rows.
-// A part takes the columns that it needs one by one, so that its signature says which it may change (`tables::Network`).
+// `store_rows` is lent all columns, as `TableRow::store` is; a load changes all of them.
 ghost use Rattle.std.specs.Prelude.{◌≡◌, ◌+◌, ◌*◌, ◌<◌, ◌≤◌, ℕ, length};
 ghost use Rattle.tables.specs.Net.{entering, leaving, net_of};
 ghost use Rattle.layout.specs.Numbers.{placed};

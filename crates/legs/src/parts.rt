@@ -1,5 +1,5 @@
 // What a walk is made of: two legs, one after the other.
-// A part takes the columns that it needs one by one, so that its signature says which it may change (`tables::Network`).
+// A part takes the columns that it reads and no others: the whole network, as `tables::Network`, would ask more of its callers.
 ghost use Rattle.std.specs.Prelude.{◌≡◌, ◌<◌, length};
 ghost use Rattle.tables.specs.Net.{node_cell};
 ghost use Rattle.tables.specs.Answers.{out, done, told_items};

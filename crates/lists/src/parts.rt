@@ -1,5 +1,5 @@
 // What the walks are made of. Each goes along one list, in direction k, from a link on.
-// A part takes the columns that it needs one by one, so that its signature says which it may change (`tables::Network`).
+// A part takes the columns that it reads and no others: the whole network, as `tables::Network`, would ask more of its callers.
 ghost use Rattle.std.specs.Prelude.{◌≡◌, length, map};
 ghost use Rattle.lists.specs.Walk.{picked, rows_from, taken_from, stop_from, item_of};
 ghost use Rattle.tables.specs.Answers.{out, done};
@@ -64,7 +64,7 @@ pub fn count_both(
     let mut f = other;
     let mut rows = 0;
     let mut others = 0;
-    // No `for`, as in `first`; and how many turns there were is what is told.
+    // No `for`, as in `first`.
     while e < m {
         if rows == m {
             return None;

@@ -13,6 +13,7 @@ use std::io;
 use std::io::{Read, Write};
 use telling::parts::{TOLD_BYTES, tell_run};
 
+// Its tables are arrays: no program has a heap.
 // One byte more than a script may have: where it is read too, the script is too long.
 const ROOM: usize = MOST_BYTES + 1;
 

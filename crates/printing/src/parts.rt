@@ -71,10 +71,7 @@ pub fn write_byte(out: &mut [u8], at: usize, b: u8) -> usize
 fn absolute(z: i64) -> u64
     ensures { result ≡ nat_abs z }
 {
-    if z < 0 {
-        return ((0 - (z + 1)) as u64) + 1;
-    }
-    z as u64
+    z.unsigned_abs()
 }
 
 pub fn signed_width(z: i64) -> usize

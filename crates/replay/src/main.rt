@@ -13,6 +13,7 @@ use script::net_run;
 use std::io;
 use std::io::{ErrorKind, Read, Stdout};
 
+// Its tables are arrays: no program has a heap.
 // Room for the longest script of the list, and more than for its longest buffer: what lies behind a buffer is not to be touched either.
 const SCRIPT_ROOM: usize = 16385;
 
@@ -21,7 +22,7 @@ const OUT_ROOM: usize = 21504;
 // What each byte holds before a run. No answer has such a byte.
 const MARK: u8 = 170;
 
-// '0' to '9' are 48 to 57.
+// '0' to '9' are 48 to 57. The list is the oracle's own, so no byte needs an Option as std's `to_digit` answers it.
 fn digit(x: u8) -> usize
     ensures { result < 16 }
 {

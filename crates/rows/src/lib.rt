@@ -88,7 +88,7 @@ pub fn all_edge_weights(net: Network, items: &mut [u32]) -> Result<u32, Refusal>
     Ok(net.m)
 }
 
-// Takes out all edges. The nodes keep their net.weights.
+// Takes out all edges. The nodes keep their weights.
 #[tactic(auto, using(tables::proofs::Guards::guards, tables::proofs::Laws::fitting), unfolding(crate::specs::Calls::clear_edges))]
 pub fn clear_edges(
     weights: &[i32],

@@ -39,7 +39,8 @@ pub fn run_lines(script: &[u8], out: &mut [u8], limit: usize, desk: &mut Desk) -
 {
     let mut at: usize = 0;
     let mut to: usize = 0;
-    // From line to line, each where the one before it ended: std's `split` would have one line more behind a last newline.
+    // From line to line, each where the one before it ended: std's `split` would have one line more behind a last newline, and
+    // `split_inclusive` would leave each line its newline, to be cut off again.
     while at < script.len() {
         let end = line_end(script, at);
         let reply = answer_line(&script[at..end], desk);
@@ -65,7 +66,7 @@ pub fn limit_of(room: usize) -> usize
     room.min(MOST_BYTES)
 }
 
-// The answer number times 2^32, plus the bytes written.
+// The answer number times 2^32, plus the bytes written: two numbers in one, as C gets them.
 pub fn pack(number: u32, bytes: usize) -> u64
     requires { bytes < 2 ^ 32 }
     ensures { result ≡ number * 2 ^ 32 + bytes }

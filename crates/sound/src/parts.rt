@@ -1,5 +1,5 @@
 // What the check is made of: one list, and all lists of one direction.
-// A part takes the columns that it needs one by one, so that its signature says which it may change (`tables::Network`).
+// A part takes the columns that it reads and no others: the whole network, as `tables::Network`, would ask more of its callers.
 ghost use Rattle.std.specs.Prelude.{◌≡◌, length};
 ghost use Rattle.lists.specs.Walk.{cell, link_in};
 ghost use Rattle.sound.specs.Check.{node_walked, one_way};

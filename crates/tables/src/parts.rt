@@ -26,7 +26,8 @@ pub const SOURCE: usize = OUTGOING;
 
 pub const TARGET: usize = INCOMING;
 
-// The columns are within the limits, agree in rows and hold the counts; else every call is refused 1.
+// The columns are within the limits, agree in rows and hold the counts; else every call is refused 1. A call that changes some of them tests
+// by this; one that changes none has them as a `Network`.
 pub fn fits(
     weights: &[i32],
     heads: &[u32],

@@ -10,7 +10,8 @@ use script::{MOST_BYTES, net_run};
 // Room for the answer lines of any run, and for its ending: `! 7` or `! 1`, and a newline.
 pub const TOLD_BYTES: usize = MOST_BYTES + 4;
 
-// Behind the answer lines, which end at `at`: nothing where the run was done, else a line of `!` and its answer number.
+// Behind the answer lines, which end at `at`: nothing where the run was done, else a line of `!` and its answer number,
+// which is printed as `net_run` tells it.
 pub fn write_ending(out: &mut [u8], at: usize, number: u32) -> usize
     requires { at + length (ending_of number) ≤ length out.old }
     ensures { Writes out.old out.new at (ending_of number) result }

@@ -9,10 +9,10 @@ ghost use Rattle.text.specs.Parts.{EndsLine, run, read_digits, read_whole, read_
 fn is_digit(b: u8) -> bool
     ensures { result ≡ is_digit b }
 {
-    b'0' <= b && b <= b'9'
+    b.is_ascii_digit()
 }
 
-// The value of one digit.
+// The value of one digit. std's `to_digit` is of a char, and would answer an Option that no caller needs.
 fn digit(b: u8) -> u64
     requires { 48 ≤ b }
     ensures { result ≡ b - 48 }
@@ -132,7 +132,7 @@ pub fn read_weight_operand(text: &[u8]) -> Option<i32>
     read_weight(field)
 }
 
-// Where the line from `at` on ends: its newline, or the end of the script.
+// Where the line from `at` on ends: its newline, or the end of the script. In places of the script, from which the run goes on.
 pub fn line_end(script: &[u8], at: usize) -> usize
     requires { at ≤ length script.now }
     ensures { EndsLine script.now at result }

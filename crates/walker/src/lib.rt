@@ -113,9 +113,12 @@ pub fn sum_around(net: Network, a: NodeIndex) -> Result<i64, Refusal>
     if net.n <= a.0 {
         return Err(Refusal::NoNode);
     }
+    let (weights, links, ends, n, m) = (net.weights, net.links, net.ends, net.n, net.m);
     let row = NODE_CELLS * a.index();
     let e = net.heads[row + OUTGOING];
-    let outs = sum(net, OUTGOING, Pick::Every, e, 0).ok_or(Refusal::Broken)?;
     let i = net.heads[row + INCOMING];
-    sum(net, INCOMING, Pick::NotTo(a), i, outs).ok_or(Refusal::Broken)
+    let outs = sum(weights, links, ends, n, m, OUTGOING, Pick::Every, e, 0);
+    let z = outs.ok_or(Refusal::Broken)?;
+    let both = sum(weights, links, ends, n, m, INCOMING, Pick::NotTo(a), i, z);
+    both.ok_or(Refusal::Broken)
 }

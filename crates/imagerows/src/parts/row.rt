@@ -1,5 +1,5 @@
 // A row of either kind, read from the columns and stored in them.
-// A part takes the columns that it needs one by one, so that its signature says which it may change (`tables::Network`).
+// `store` is lent all columns, though a row of either kind has its place in some: a trait's method has one signature.
 ghost use Rattle.std.specs.Prelude.{◌≡◌, ℕ, length};
 ghost use Rattle.tables.specs.Net.{Net, entering, leaving, net_of};
 ghost use Rattle.tables.specs.Rows.{node_row, edge_row, with_node, with_edge};

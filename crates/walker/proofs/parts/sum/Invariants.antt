@@ -8,8 +8,8 @@ use Rattle.walker.proofs.parts.sum.Given as goal
 
 abbrev pub invariant-loop-e : goal.invariant-loop-e
 invariant-loop-e l =
-    (met : List ℕ) × Along (cell l.net.links.now l.k) l.net.m l.link met l.e l.rows
-    × Summing l.net.weights.now l.net.n (λ x. picked l.pick (cell l.net.ends.now (1 - l.k) x)) (cell l.net.ends.now (1 - l.k)) l.before met l.total l.rows
+    (met : List ℕ) × Along (cell l.links l.k) l.m l.link met l.e l.rows
+    × Summing l.weights l.n (λ x. picked l.pick (cell l.ends (1 - l.k) x)) (cell l.ends (1 - l.k)) l.before met l.total l.rows
 
 abbrev pub decreases-loop-e : goal.decreases-loop-e
-decreases-loop-e l = l.net.m - l.rows
+decreases-loop-e l = l.m - l.rows
