@@ -6,6 +6,9 @@ ghost use Rattle.text.specs.Parts.{EndsLine, run, read_digits, read_whole, read_
 
 // A number that a text begins with comes with how many bytes it takes; what is no number is `None`.
 
+// The most digits that a number may have.
+const MOST_DIGITS: usize = 10;
+
 fn is_digit(b: u8) -> bool
     ensures { result ≡ is_digit b }
 {
@@ -41,12 +44,14 @@ fn value_of(digits: &[u8]) -> u64
     value
 }
 
-// The digits that a text begins with, 1 to 10: their value, which may not fit 32 bits, and how many they are.
+// The digits that a text begins with, 1 to 10: their value, which may not fit 32 bits, and how many they are. One more tells that they are
+// too many, so no byte behind it is read.
 fn read_digits(text: &[u8]) -> Option<(u64, usize)>
     ensures { result ≡ read_digits 0 text.now }
 {
-    let len = run_len(text);
-    if len == 0 || 10 < len {
+    let front = &text[..text.len().min(MOST_DIGITS + 1)];
+    let len = run_len(front);
+    if len == 0 || MOST_DIGITS < len {
         return None;
     }
     Some((value_of(&text[..len]), len))
