@@ -84,7 +84,10 @@ pub fn all_edge_weights(net: Network, items: &mut [u32]) -> Result<u32, Refusal>
     if items.len() < count {
         return Err(Refusal::Short);
     }
-    items[..count].copy_from_slice(&net.registers[..count]);
+    // Cell by cell: for std's `copy_from_slice` the archive for C would need a function from outside (`memmove`).
+    for e in 0..count {
+        items[e] = net.registers[e];
+    }
     Ok(net.m)
 }
 
