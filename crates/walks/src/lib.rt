@@ -2,31 +2,34 @@
 // A missing node has no items. Both lists are settled before anything is written: 6 comes before 7.
 #![tactic(auto)]
 
-ghost use Rattle.std.specs.Prelude.{◌≡◌, ◌-◌, ◌<◌};
+ghost use Rattle.std.specs.Prelude.{◌≡◌};
+ghost use Rattle.index.specs.Index.{number_of};
 ghost use Rattle.tables.specs.Net.{net_of};
 ghost use Rattle.tables.specs.Answers.{out, told_items};
 ghost use Rattle.walks.specs.Walks.{neighbors, edges, edge_weights, edges_between, edges_mut, walked_legs};
 ghost use Rattle.legs.specs.Legs.{tables3};
 
-use index::{NodeIndex, Refusal};
+use index::EdgeDirection::{Incoming, Outgoing};
+use index::{EdgeDirection, NodeIndex, Refusal};
 use legs::parts::{along, walk, walk_edges};
 use lists::{Item, Pick};
 use tables::Network;
 use tables::parts::{INCOMING, OUTGOING};
 
-// The item of each row that a walk takes of node a's list in direction k, then of its other list.
+// The item of each row that a walk takes of node a's list in one direction, then of its other list. Inlined, so that each walk below is compiled
+// for its own item and picks: as one function for all of them it took half as long again for each row.
+#[inline(always)]
 #[tactic(auto, using(tables::proofs::Guards::guards, tables::proofs::Laws::fitting), unfolding(crate::specs::Walks::walked_legs))]
 fn walk_around(
     net: Network,
     a: NodeIndex,
     item: Item,
-    k: usize,
+    direction: EdgeDirection,
     first: Pick,
     second: Pick,
     items: &mut [u32],
 ) -> Result<u32, Refusal>
-    requires { k < 2 }
-    ensures { out (told_items result) items.new ≡ walked_legs (net_of net.entry) a.0 item k first second items.old }
+    ensures { out (told_items result) items.new ≡ walked_legs (net_of net.entry) a.0 item (number_of direction) first second items.old }
 {
     if !net.fits() {
         return Err(Refusal::Tables);
@@ -34,6 +37,7 @@ fn walk_around(
     if net.n <= a.0 {
         return Ok(0);
     }
+    let k = direction.number();
     let first = along(net.heads, a, k, first);
     let second = along(net.heads, a, 1 - k, second);
     walk(
@@ -53,8 +57,8 @@ fn walk_around(
 pub fn neighbors(net: Network, a: NodeIndex, items: &mut [u32]) -> Result<u32, Refusal>
     ensures { out (told_items result) items.new ≡ neighbors (net_of net.entry) a.0 items.old }
 {
-    let inward = Pick::NotTo(a);
-    walk_around(net, a, Item::Far, OUTGOING, Pick::Every, inward, items)
+    let (every, inward) = (Pick::Every, Pick::NotTo(a));
+    walk_around(net, a, Item::Far, Outgoing, every, inward, items)
 }
 
 // The register numbers of the same edges.
@@ -62,8 +66,8 @@ pub fn neighbors(net: Network, a: NodeIndex, items: &mut [u32]) -> Result<u32, R
 pub fn edge_weights(net: Network, a: NodeIndex, items: &mut [u32]) -> Result<u32, Refusal>
     ensures { out (told_items result) items.new ≡ edge_weights (net_of net.entry) a.0 items.old }
 {
-    let inward = Pick::NotTo(a);
-    walk_around(net, a, Item::Weight, OUTGOING, Pick::Every, inward, items)
+    let (every, inward) = (Pick::Every, Pick::NotTo(a));
+    walk_around(net, a, Item::Weight, Outgoing, every, inward, items)
 }
 
 // The numbers of those whose far end is b.
@@ -77,7 +81,7 @@ pub fn edges_between(
     ensures { out (told_items result) items.new ≡ edges_between (net_of net.entry) a.0 b.0 items.old }
 {
     let (outward, inward) = (Pick::To(b), Pick::ToNot(b, a));
-    walk_around(net, a, Item::Number, OUTGOING, outward, inward, items)
+    walk_around(net, a, Item::Number, Outgoing, outward, inward, items)
 }
 
 // The numbers of all edges, incoming ones first; a self-loop comes twice.
@@ -86,7 +90,7 @@ pub fn edges_mut(net: Network, a: NodeIndex, items: &mut [u32]) -> Result<u32, R
     ensures { out (told_items result) items.new ≡ edges_mut (net_of net.entry) a.0 items.old }
 {
     let every = Pick::Every;
-    walk_around(net, a, Item::Number, INCOMING, every, every, items)
+    walk_around(net, a, Item::Number, Incoming, every, every, items)
 }
 
 // The Rust's mutable weights, as the numbers of their rows: those of `edges_mut`.

@@ -1,5 +1,6 @@
 -- Past the tests the call is its two legs.
-use Rattle.std.proofs.Common.{◌≡◌, ◌∙◌, ◌-◌}
+use Rattle.std.proofs.Common.{ℕ, ◌≡◌, ◌∙◌, ◌-◌}
+use Rattle.index.specs.Index.{number_of}
 use Rattle.tables.specs.Net.{Net, net_of}
 use Rattle.tables.proofs.Guards.{guards}
 use Rattle.legs.specs.declared.parts.Leg.{Leg}
@@ -13,7 +14,10 @@ unfolding walked_legs
 returns c =
     let a = c.args in
     let g : Net = net_of a.net in
-    let first : Leg = leg_at g.heads a.k a.first a.a.0 in
-    let second : Leg = leg_at g.heads (1 - a.k) a.second a.a.0 in
-    let past : items_told g a.item first second a.items.now ≡ walked_legs g a.a.0 a.item a.k a.first a.second a.items.now = search guards depth 9 in
-    rw (c.along-first.ensures, c.along-second.ensures) at c.walk.ensures ∙ past
+    let k : ℕ = number_of a.direction in
+    let first : Leg = leg_at g.heads k a.first a.a.0 in
+    let second : Leg = leg_at g.heads (1 - k) a.second a.a.0 in
+    let past : items_told g a.item first second a.items.now ≡ walked_legs g a.a.0 a.item k a.first a.second a.items.now = search guards depth 9 in
+    let one : c.along-first.result ≡ first = rw c.number-k.ensures at c.along-first.ensures in
+    let other : c.along-second.result ≡ second = rw c.number-k.ensures at c.along-second.ensures in
+    rw (one, other) at c.walk.ensures ∙ past
