@@ -47,25 +47,28 @@ pub fn dispatch(desk: &mut Desk, letter: u8, o: Numbers) -> Reply
     ensures does { replied result (state_of desk.new) ≡ step letter o (state_of desk.old) }
     ensures same { SameTables desk.old desk.new }
 {
-    let (n, m) = (desk.n, desk.m);
+    // The counts are lent apart and put back: a command's `&mut` into the desk would keep it in memory, from which each line would read anew
+    // where its tables lie and how long they are.
+    let (mut n, mut m) = (desk.n, desk.m);
     // Columns that a command only reads are lent by `&mut` as well: tried by `&`, and the prover has no rule yet for that beside a `&mut` of another.
     let weights = &mut *desk.weights;
     let heads = &mut *desk.heads;
     let registers = &mut *desk.registers;
     let links = &mut *desk.links;
     let ends = &mut *desk.ends;
-    let nodes = &mut desk.n;
-    let edges = &mut desk.m;
-    match letter {
-        b'N' => add_node_line(weights, heads, registers, links, ends, nodes, m, o.w),
+    let reply = match letter {
+        b'N' => add_node_line(weights, heads, registers, links, ends, &mut n, m, o.w),
         b'E' => add_edge_line(
-            weights, heads, registers, links, ends, n, edges, o.a, o.b, o.c,
+            weights, heads, registers, links, ends, n, &mut m, o.a, o.b, o.c,
         ),
         b'U' => update_edge_line(
-            weights, heads, registers, links, ends, n, edges, o.a, o.b, o.c,
+            weights, heads, registers, links, ends, n, &mut m, o.a, o.b, o.c,
         ),
-        _ => take_out(desk, letter, o),
-    }
+        _ => return take_out(desk, letter, o),
+    };
+    desk.n = n;
+    desk.m = m;
+    reply
 }
 
 // The commands that take out.
@@ -75,23 +78,24 @@ fn take_out(desk: &mut Desk, letter: u8, o: Numbers) -> Reply
     ensures does { replied result (state_of desk.new) ≡ step letter o (state_of desk.old) }
     ensures same { SameTables desk.old desk.new }
 {
-    let n = desk.n;
+    let (mut n, mut m) = (desk.n, desk.m);
     let weights = &mut *desk.weights;
     let heads = &mut *desk.heads;
     let registers = &mut *desk.registers;
     let links = &mut *desk.links;
     let ends = &mut *desk.ends;
-    let nodes = &mut desk.n;
-    let edges = &mut desk.m;
-    match letter {
-        b'X' => remove_edge_line(weights, heads, registers, links, ends, n, edges, o.a),
+    let reply = match letter {
+        b'X' => remove_edge_line(weights, heads, registers, links, ends, n, &mut m, o.a),
         b'D' => remove_node_line(
-            weights, heads, registers, links, ends, nodes, edges, o.a, desk.items,
+            weights, heads, registers, links, ends, &mut n, &mut m, o.a, desk.items,
         ),
-        b'C' => clear_edges_line(weights, heads, registers, links, ends, n, edges),
-        b'Z' => clear_line(weights, heads, registers, links, ends, nodes, edges),
-        _ => tell(desk, letter, o),
-    }
+        b'C' => clear_edges_line(weights, heads, registers, links, ends, n, &mut m),
+        b'Z' => clear_line(weights, heads, registers, links, ends, &mut n, &mut m),
+        _ => return tell(desk, letter, o),
+    };
+    desk.n = n;
+    desk.m = m;
+    reply
 }
 
 // The commands that leave the network as it is.
