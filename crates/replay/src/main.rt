@@ -56,7 +56,10 @@ fn print_with(stdout: &Stdout, x: usize, behind: &[u8]) -> io::Result<()> {
 
 // How many bytes from `written` on have lost their mark.
 fn touched(out: &[u8], written: usize) -> usize {
-    out.iter().skip(written).filter(|b| **b != MARK).count()
+    out[written.min(out.len())..]
+        .iter()
+        .filter(|b| **b != MARK)
+        .count()
 }
 
 fn run(script: &[u8], out: &mut [u8], room: usize) -> u64 {
