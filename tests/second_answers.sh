@@ -36,19 +36,53 @@ functions() {
     done | sort
 }
 
-# the function of each line of the list; a line that names two, or takes less than every input where it is no part, is told whole.
+# the function of each line of the list; a line that names two, takes less than every input where it is no part, asks for something, or is of one
+# type or width alone is told whole. A generic function is settled for every type, in a module that has the type and what its bounds give
+# (`module _ (T : RattleType) (lt : Laws T) ..`), and one with a width behind `(K : RattleType) (f : Fits w64 (value_of K)) → `.
 listed() {
-    sed -nE 's/^ *pub [^ ]+ : (.* → )?(Settles(All)? .*)$/\2/; T; s/\(([^ ()]+\.ended) [^()]*\)/\1/; s/\(([^ ()]+\.Reads\.Post) .*\)$/\1/; p' \
-        crates/demands/proofs/Settled*.antt | awk '
+    awk '
+        # the types of such a module; none where it asks for anything else
+        function types_of(head,  types, binder, kind) {
+            gsub(/^module _ *| *where *$/, "", head)
+            while (match(head, /^\([^()]*\) */)) {
+                binder = kind = substr(head, 1, RLENGTH)
+                head = substr(head, RLENGTH + 1)
+                gsub(/^\(| :.*/, "", binder)
+                gsub(/.* : |\) *$/, "", kind)
+                if (kind == "RattleType") types = types " " binder
+                else if (kind !~ /^(Dict|(Laws|IsCopy) [A-Z]|([A-Za-z]+\.)?Ghosts( [A-Z]\.Denot)+)$/) return ""
+            }
+            return head == "" ? types : ""
+        }
+        # what is said of a generic function, without the arguments, the first of which are these types
+        function plain(line, types) {
+            if (types == "" || line !~ "[.]ended" types "[ )]") return line
+            sub(/^Settles \(/, "Settles ", line)
+            sub(/\.ended [^()]*\) \(/, ".ended ", line)
+            sub(/\.Reads\.Post .*\)$/, ".Reads.Post", line)
+            return line
+        }
+        /^module / { head = ""; within = 1 }
+        within { sub(/^ */, " "); head = head $0 }
+        within && / where *$/ { sub(/^ /, "", head); types = types_of(head); within = 0; next }
+        within { next }
+        /^[^ ]/ { types = "" }
+        !/^ *pub [^ ]+ : (.* → )?Settles(All)? / { next }
         {
+            within_module = /^ /
+            sub(/^ *pub [^ ]+ : /, "")
+            whole = $0
+            if (within_module) $0 = plain($0, types)
+            else if (sub(/^\(K : RattleType\) \(f : Fits w64 \(value_of K\)\) → /, "")) $0 = plain($0, " K")
             contract = $2
             sub(/\.ended$/, "", contract)
             name = contract
             sub(/_contracts\./, ".", name)
             all = "SettlesAll " contract ".ended " name ".Reads.Pre " name ".Reads.Post"
             part = "Settles " contract ".ended " name ".Reads.Post"
-            print ($0 == all || ($0 == part && name ~ /\.parts\./)) ? name : $0
-        }' | sort
+            if (within_module && $0 == whole) print "in a module: " $0
+            else print ($0 == all || ($0 == part && name ~ /\.parts\./)) ? name : $0
+        }' crates/demands/proofs/Settled*.antt | sort
 }
 
 # the promise of each public function of a file, one to a line: its name, parameters, result and clauses
