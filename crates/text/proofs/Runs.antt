@@ -2,7 +2,7 @@
 use Prim.Native.Nat.{ℕ, zero, suc, ◌+◌, ◌*◌, ◌-◌, ◌^◌, ◌≤◌, ◌<◌, min}
 use mathlib.Core.Path.{◌≡◌, refl, sym, ap, subst, ◌∙◌}
 use mathlib.Core.Bool.{Bool, true, false, cond, not, ◌&&◌}
-use mathlib.Core.Logic.{◌⊎◌, ⊎_elim}
+use mathlib.Core.Logic.{◌⊎◌, inl, inr, ⊎_elim}
 use mathlib.Core.List.{List, [], ◌∷◌, ◌++◌}
 use mathlib.Core.Option.{none, some}
 use native.Mathlib.Nat.{pow-suc, pow-le-pow_right}
@@ -144,7 +144,7 @@ run_front (b ∷ bs) = go (is_digit b) refl (run_front bs)
     go true h e = rw (run_digit b bs h) (ap (λ s. b ∷ s) e)
     go false h e = rw (run-stops b bs h)
 
--- the run of the first k bytes is as long as the run of all, or it is k long
+-- the run of the first k bytes is the first k of the run
 pub run-cut : (k : ℕ) (text : List ℕ) → run (take k text) ≡ take k (run text)
 run-cut zero text = run-empty
 run-cut (suc k) [] = rw run-empty
@@ -153,21 +153,6 @@ run-cut (suc k) (b ∷ bs) = go (is_digit b) refl (run-cut k bs)
     go : (t : Bool) → is_digit b ≡ t → run (take k bs) ≡ take k (run bs) → run (b ∷ take k bs) ≡ take (suc k) (run (b ∷ bs))
     go true h e = rw (run_digit b (take k bs) h, run_digit b bs h) (ap (λ s. b ∷ s) e)
     go false h e = rw (run-stops b (take k bs) h, run-stops b bs h)
-
-counted_cut : (text : List ℕ) (k : ℕ) {len : ℕ} → len ≡ length (run (take k text)) → len ≡ min k (length (run text))
-counted_cut text k e = e ∙ ap length (run-cut k text) ∙ length-take k (run text)
-
--- one byte more than the most digits tells how many digits there are, or that they are too many
-module _ (at : ℕ) (text : List ℕ) {k len most : ℕ} (cut : k ≡ min (length text) (most + 1)) (e : len ≡ length (run (take k text))) where
-  pub few_counted : len ≤ most → len ≡ length (run text)
-  few_counted h = omega (arith, counted_cut text k e, cut, run_short text)
-
-  pub none_or_many : 10 ≤ most → (len ≡ 0) ⊎ ((len ≡ 0 → ⊥) × (most < len)) → None ≡ read_digits at text
-  unfolding read_digits
-  none_or_many many =
-      ⊎_elim
-      (λ z. rw (no_length (run text) (omega (arith, few_counted (omega (arith, z)))), none_at_all))
-      (λ m. rw (too_many (run text) (omega (arith, counted_cut text k e, m.1))))
 
 -- so many digits stand at the front of a text
 module _ (at : ℕ) (text : List ℕ) {len : ℕ} (e : len ≡ length (run text)) where
@@ -180,9 +165,30 @@ module _ (at : ℕ) (text : List ℕ) {len : ℕ} (e : len ≡ length (run text)
   pub front_long : length (take len text) ≡ len
   front_long = rw front_is (sym e)
 
+  pub none_or_many : (len ≡ 0) ⊎ ((len ≡ 0 → ⊥) × (10 < len)) → None ≡ read_digits at text
+  unfolding read_digits
+  none_or_many =
+      ⊎_elim
+      (λ z. rw (no_length (run text) (omega (arith, e)), none_at_all))
+      (λ m. rw (too_many (run text) (omega (arith, e, m.1))))
+
   pub all_read : {value : ℕ} → (len ≡ 0 → ⊥) → len ≤ 10 → value ≡ value_on 0 (take len text) → Some (value, at + len) ≡ read_digits at text
   unfolding read_digits
   all_read n m v = rw (magnitude-is (run text) (run-digits text) (omega (arith, e)) (omega (arith, e)), v, front_is, e)
+
+counted_cut : (text : List ℕ) (k : ℕ) {len : ℕ} → len ≡ length (run (take k text)) → len ≡ min k (length (run text))
+counted_cut text k e = e ∙ ap length (run-cut k text) ∙ length-take k (run text)
+
+-- one byte more than the most digits tells how many digits there are, or that they are too many
+module _ (at : ℕ) (text : List ℕ) {k len most : ℕ} (cut : k ≡ min (length text) (most + 1)) (e : len ≡ length (run (take k text))) where
+  pub few_counted : len ≤ most → len ≡ length (run text)
+  few_counted h = omega (arith, counted_cut text k e, cut, run_short text)
+
+  pub none_or_more : 10 ≤ most → (len ≡ 0) ⊎ ((len ≡ 0 → ⊥) × (most < len)) → None ≡ read_digits at text
+  none_or_more many =
+      ⊎_elim
+      (λ z. none_or_many at text (few_counted (omega (arith, z))) (inl z))
+      (λ m. none_or_many at text refl (inr ((λ z. omega (arith, counted_cut text k e, m.1, z)), omega (arith, counted_cut text k e, m.1))))
 
 -- ten digits at most have a value that 64 bits hold
 pub magnitude_small : (text : List ℕ) {v : ℕ} → magnitude text ≡ some v → v < 10000000000

@@ -1,10 +1,10 @@
 -- The front tells how many digits the text begins with, or that they are too many.
 use Rattle.std.proofs.Common.{sym, zero-add, arith}
-use Rattle.text.proofs.Runs.{few_counted, front_digits, front_long, none_or_many, all_read}
+use Rattle.text.proofs.Runs.{few_counted, front_digits, front_long, none_or_more, all_read}
 use Rattle.text.proofs.parts.read_digits.Goals as goal
 
 pub returns-then-len-eq0 : goal.returns-then-len-eq0
-returns-then-len-eq0 c = none_or_many 0 _ c.min.ensures c.run_len-len.ensures (omega arith) c.then-len-eq0.either
+returns-then-len-eq0 c = none_or_more 0 _ c.min.ensures c.run_len-len.ensures (omega arith) c.then-len-eq0.either
 
 pub slice_bounds-value_of-end : goal.slice_bounds-value_of-end
 slice_bounds-value_of-end c = sym (front_long 0 _ (few_counted 0 _ c.min.ensures c.run_len-len.ensures c.if-len-gt-MOST_DIGITS.false))
