@@ -54,9 +54,10 @@ listed() {
             }
             return head == "" ? types : ""
         }
-        # what is said of a generic function, without the arguments, the first of which are these types
+        # what is said of a generic function, without the arguments, the first of which are these types; behind them nothing may stand
         function plain(line, types) {
             if (types == "" || line !~ "[.]ended" types "[ )]") return line
+            if (line !~ /^Settles \([^ ()]+\.ended [^()]*\) \([^ ()]+\.Reads\.Post( [^()]*| \(value_of K\) f)\)$/) return line
             sub(/^Settles \(/, "Settles ", line)
             sub(/\.ended [^()]*\) \(/, ".ended ", line)
             sub(/\.Reads\.Post .*\)$/, ".Reads.Post", line)
@@ -66,7 +67,7 @@ listed() {
         within { sub(/^ */, " "); head = head $0 }
         within && / where *$/ { sub(/^ /, "", head); types = types_of(head); within = 0; next }
         within { next }
-        /^[^ ]/ { types = "" }
+        /^[^ ]/ || /^ +(private +)?module / || /^   +pub / { types = "" }
         !/^ *pub [^ ]+ : (.* → )?Settles(All)? / { next }
         {
             within_module = /^ /
