@@ -47,8 +47,8 @@ pub fn dispatch(desk: &mut Desk, letter: u8, o: Numbers) -> Reply
     ensures does { replied result (state_of desk.new) ≡ step letter o (state_of desk.old) }
     ensures same { SameTables desk.old desk.new }
 {
-    // The counts are lent apart and put back: a command's `&mut` into the desk would keep it in memory, from which each line would read anew
-    // where its tables lie and how long they are.
+    // A count that a command changes is lent apart and put back: a command's `&mut` into the desk would keep it in memory, from which each line
+    // would read anew where its tables lie and how long they are.
     let (mut n, mut m) = (desk.n, desk.m);
     // Columns that a command only reads are lent by `&mut` as well: tried by `&`, and the prover has no rule yet for that beside a `&mut` of another.
     let weights = &mut *desk.weights;
@@ -56,19 +56,28 @@ pub fn dispatch(desk: &mut Desk, letter: u8, o: Numbers) -> Reply
     let registers = &mut *desk.registers;
     let links = &mut *desk.links;
     let ends = &mut *desk.ends;
-    let reply = match letter {
-        b'N' => add_node_line(weights, heads, registers, links, ends, &mut n, m, o.w),
-        b'E' => add_edge_line(
-            weights, heads, registers, links, ends, n, &mut m, o.a, o.b, o.c,
-        ),
-        b'U' => update_edge_line(
-            weights, heads, registers, links, ends, n, &mut m, o.a, o.b, o.c,
-        ),
-        _ => return take_out(desk, letter, o),
-    };
-    desk.n = n;
-    desk.m = m;
-    reply
+    match letter {
+        b'N' => {
+            let reply = add_node_line(weights, heads, registers, links, ends, &mut n, m, o.w);
+            desk.n = n;
+            reply
+        }
+        b'E' => {
+            let reply = add_edge_line(
+                weights, heads, registers, links, ends, n, &mut m, o.a, o.b, o.c,
+            );
+            desk.m = m;
+            reply
+        }
+        b'U' => {
+            let reply = update_edge_line(
+                weights, heads, registers, links, ends, n, &mut m, o.a, o.b, o.c,
+            );
+            desk.m = m;
+            reply
+        }
+        _ => take_out(desk, letter, o),
+    }
 }
 
 // The commands that take out.
@@ -84,18 +93,31 @@ fn take_out(desk: &mut Desk, letter: u8, o: Numbers) -> Reply
     let registers = &mut *desk.registers;
     let links = &mut *desk.links;
     let ends = &mut *desk.ends;
-    let reply = match letter {
-        b'X' => remove_edge_line(weights, heads, registers, links, ends, n, &mut m, o.a),
-        b'D' => remove_node_line(
-            weights, heads, registers, links, ends, &mut n, &mut m, o.a, desk.items,
-        ),
-        b'C' => clear_edges_line(weights, heads, registers, links, ends, n, &mut m),
-        b'Z' => clear_line(weights, heads, registers, links, ends, &mut n, &mut m),
-        _ => return tell(desk, letter, o),
-    };
-    desk.n = n;
-    desk.m = m;
-    reply
+    match letter {
+        b'X' => {
+            let reply = remove_edge_line(weights, heads, registers, links, ends, n, &mut m, o.a);
+            desk.m = m;
+            reply
+        }
+        b'D' => {
+            let reply = remove_node_line(
+                weights, heads, registers, links, ends, &mut n, &mut m, o.a, desk.items,
+            );
+            (desk.n, desk.m) = (n, m);
+            reply
+        }
+        b'C' => {
+            let reply = clear_edges_line(weights, heads, registers, links, ends, n, &mut m);
+            desk.m = m;
+            reply
+        }
+        b'Z' => {
+            let reply = clear_line(weights, heads, registers, links, ends, &mut n, &mut m);
+            (desk.n, desk.m) = (n, m);
+            reply
+        }
+        _ => tell(desk, letter, o),
+    }
 }
 
 // The commands that leave the network as it is.
