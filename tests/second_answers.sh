@@ -36,54 +36,58 @@ functions() {
     done | sort
 }
 
-# the function of each line of the list; a line that names two, takes less than every input where it is no part, asks for something, or is of one
-# type or width alone is told whole. A generic function is settled for every type, in a module that has the type and what its bounds give
-# (`module _ (T : RattleType) (lt : Laws T) ..`), and one with a width behind `(K : RattleType) (f : Fits w64 (value_of K)) → `.
+# the function of each line of the list; a line that names two, takes less than every input where it is no part, asks for something, goes on behind
+# its end, or is of one type or width alone is told whole. A generic function is settled for every type, in a module that has the type and what its
+# bounds give (`module _ (T : RattleType) (lt : Laws T) ..`), and one with a width behind `(K : RattleType) (f : Fits w64 (value_of K)) → `.
 listed() {
     awk '
-        # the types of such a module; none where it asks for anything else
-        function types_of(head,  types, binder, kind) {
+        # the names of such a head, which the contract takes in this order, and of these the types; none where it asks for anything else
+        function read_head(head,  binder, kind) {
+            names = types = ""
             gsub(/^module _ *| *where *$/, "", head)
             while (match(head, /^\([^()]*\) */)) {
                 binder = kind = substr(head, 1, RLENGTH)
                 head = substr(head, RLENGTH + 1)
                 gsub(/^\(| :.*/, "", binder)
                 gsub(/.* : |\) *$/, "", kind)
+                names = names " " binder
                 if (kind == "RattleType") types = types " " binder
-                else if (kind !~ /^(Dict|(Laws|IsCopy) [A-Z]|([A-Za-z]+\.)?Ghosts( [A-Z]\.Denot)+)$/) return ""
+                else if (kind !~ /^(Dict|(Laws|IsCopy) [A-Z]|([A-Za-z]+\.)?Ghosts( [A-Z]\.Denot)+)$/) head = "more"
             }
-            return head == "" ? types : ""
+            if (head != "") types = ""
         }
-        # what is said of a generic function, without the arguments, the first of which are these types; behind them nothing may stand
-        function plain(line, types) {
-            if (types == "" || line !~ "[.]ended" types "[ )]") return line
-            if (line !~ /^Settles \([^ ()]+\.ended [^()]*\) \([^ ()]+\.Reads\.Post( [^()]*| \(value_of K\) f)\)$/) return line
+        # what is said of a generic function, without the arguments: its types first, and all that the head has; nothing else may stand there
+        function plain(line, types, names) {
+            if (types == "" || line !~ "^Settles [(][^ ()]+[.]ended" types "( [^()]*)?[)] [(][^ ()]+[.]Reads[.]Post" names "[)]$") return ""
             sub(/^Settles \(/, "Settles ", line)
             sub(/\.ended [^()]*\) \(/, ".ended ", line)
             sub(/\.Reads\.Post .*\)$/, ".Reads.Post", line)
             return line
         }
+        # behind a line stands the definition of its name
+        lemma != "" { if ($1 != lemma) print "goes on: " lemma; lemma = "" }
         /^module / { head = ""; within = 1 }
         within { sub(/^ */, " "); head = head $0 }
-        within && / where *$/ { sub(/^ /, "", head); types = types_of(head); within = 0; next }
+        within && / where *$/ { sub(/^ /, "", head); read_head(head); within = 0; next }
         within { next }
         /^[^ ]/ || /^ +(private +)?module / || /^   +pub / { types = "" }
         !/^ *pub [^ ]+ : (.* → )?Settles(All)? / { next }
         {
+            lemma = $2
             within_module = /^ /
             sub(/^ *pub [^ ]+ : /, "")
             whole = $0
-            if (within_module) $0 = plain($0, types)
-            else if (sub(/^\(K : RattleType\) \(f : Fits w64 \(value_of K\)\) → /, "")) $0 = plain($0, " K")
+            if (within_module) $0 = plain($0, types, names)
+            else if (sub(/^\(K : RattleType\) \(f : Fits w64 \(value_of K\)\) → /, "")) $0 = plain($0, " K", " [(]value_of K[)] f")
             contract = $2
             sub(/\.ended$/, "", contract)
             name = contract
             sub(/_contracts\./, ".", name)
             all = "SettlesAll " contract ".ended " name ".Reads.Pre " name ".Reads.Post"
             part = "Settles " contract ".ended " name ".Reads.Post"
-            if (within_module && $0 == whole) print "in a module: " $0
-            else print ($0 == all || ($0 == part && name ~ /\.parts\./)) ? name : $0
-        }' crates/demands/proofs/Settled*.antt | sort
+            print ($0 != "" && ($0 == all || ($0 == part && name ~ /\.parts\./))) ? name : whole
+        }
+        END { if (lemma != "") print "goes on: " lemma }' crates/demands/proofs/Settled*.antt | sort
 }
 
 # the promise of each public function of a file, one to a line: its name, parameters, result and clauses
